@@ -1,0 +1,31 @@
+-- What a byte is, and tests of bytes one by one.
+use Prim.Native.Nat.{ℕ, _-_}
+use mathlib.Core.Bool.{Bool, true, false, cond, _&&_}
+use mathlib.Core.List.{List, [], _∷_}
+use lib.Dec.{ltb, eqb}
+
+-- "Words are parted by spaces or tabs": a byte that is one of the two
+unfoldable pub isBlank : ℕ → Bool
+isBlank b = cond (eqb b 32) true (eqb b 9)
+
+-- "digits of either case": the value of a hex digit, 16 for every other byte; below 10 it is a decimal digit
+unfoldable pub digitOf : ℕ → ℕ
+digitOf b =
+    cond (ltb b 48) 16
+    (cond (ltb b 58) (b - 48)
+    (cond (ltb b 65) 16
+    (cond (ltb b 71) (b - 55)
+    (cond (ltb b 97) 16
+    (cond (ltb b 103) (b - 87) 16)))))
+
+-- every byte passes a test
+abbrev pub all : (ℕ → Bool) → List ℕ → Bool
+all p [] = true
+all p (b ∷ l) = p b && all p l
+
+-- two lists of bytes are the same
+unfoldable pub same : List ℕ → List ℕ → Bool
+same [] [] = true
+same [] (c ∷ w) = false
+same (b ∷ l) [] = false
+same (b ∷ l) (c ∷ w) = eqb b c && same l w

@@ -1,0 +1,92 @@
+-- Hex data. "`:` sends hex bytes, digits of either case, spaces and tabs as separators, a run of digits cut in twos; a run of odd
+-- length is refused (house reading)."
+use Prim.Native.Nat.{ℕ, _+_, _*_, _/_, _%_}
+use mathlib.Core.Bool.{cond}
+use mathlib.Core.List.{List, [], _∷_}
+use lib.ListN.{length, drop}
+use lib.Seq.{sets}
+use lib.Dec.{ltb, leb}
+use Rattle.reader.specs.Bytes.{digitOf, isBlank}
+use Rattle.reader.specs.declared.Number.{Number}
+use Rattle.reader.specs.declared.Number.the-variants.{Value, Bad}
+use Rattle.reader.specs.declared.HexStep.{HexStep}
+use Rattle.reader.specs.declared.HexStep.the-variants.{Refuse, Skip, First, Whole}
+use Rattle.reader.specs.declared.HexCount.{HexCount}
+use Rattle.reader.specs.declared.HexCount.the-variants.{Of, Not}
+use Rattle.reader.specs.declared.HexRead.{HexRead}
+use Rattle.reader.specs.declared.HexRead.the-variants.{Bytes, Wrong, Full}
+
+-- what data say: their bytes, or the place of the first byte that cannot be taken
+pub data Said : Type 0 where
+  good : List ℕ → Said
+  bad : ℕ → Said
+
+-- what a byte does after `half`, the first digit of a pair, or 16 where no pair is begun
+unfoldable pub stepOf : ℕ → ℕ → HexStep
+stepOf half b =
+    cond (ltb (digitOf b) 16)
+    (cond (ltb half 16) (Whole (half * 16 + digitOf b)) (First (digitOf b)))
+    (cond (isBlank b) (cond (ltb half 16) Refuse Skip) Refuse)
+
+-- a byte in front of what the rest says
+unfoldable pub before : ℕ → Said → Said
+before b (good bs) = good (b ∷ bs)
+before b (bad at) = bad at
+
+-- how the reading goes on after a step at the place `at`: `next` with no pair begun, `paired` with one
+abbrev pub after : ℕ → HexStep → Said → (ℕ → Said) → Said
+after at Refuse next paired = bad at
+after at Skip next paired = next
+after at (First h) next paired = paired h
+after at (Whole b) next paired = before b next
+
+-- the bytes left, from the place `at`, after `half`
+unfoldable pub hexGo : List ℕ → ℕ → ℕ → Said
+hexGo [] half at = cond (ltb half 16) (bad at) (good [])
+hexGo (b ∷ rest) half at = after at (stepOf half b) (hexGo rest 16 (at + 1)) (λ h. hexGo rest h (at + 1))
+
+-- the hex data from a place on to the end
+unfoldable pub hexAt : List ℕ → ℕ → Said
+hexAt s at = hexGo (drop at s) 16 at
+
+-- how many bytes data are, `n` having been counted before
+unfoldable pub counted : ℕ → Said → HexCount
+counted n (good bs) = Of (n + length bs)
+counted n (bad at) = Not at
+
+-- the bytes, where the data are good
+unfoldable pub bytesOf : Said → List ℕ
+bytesOf (good bs) = bs
+bytesOf (bad at) = []
+
+-- data read into `d` from `to` on: how many bytes, or why none; and what `d` then holds
+unfoldable pub hexInto : Said → List ℕ → ℕ → HexRead
+hexInto (bad at) d to = Wrong at
+hexInto (good bs) d to = cond (leb (to + length bs) (length d)) (Bytes (length bs)) Full
+
+unfoldable pub hexPut : Said → List ℕ → ℕ → List ℕ
+hexPut (bad at) d to = d
+hexPut (good bs) d to = cond (leb (to + length bs) (length d)) (sets d to bs) d
+
+-- ---- "`:` and one or two hex digits; more is ignored": one byte, as ENCODE needs it
+
+-- after the first digit `h`: a second one, or none
+unfoldable pub hexSecond : ℕ → List ℕ → ℕ → Number
+hexSecond h [] at = Value h at
+hexSecond h (b ∷ rest) at = cond (ltb (digitOf b) 16) (Value (h * 16 + digitOf b) (at + 1)) (Value h at)
+
+unfoldable pub hexByteOf : List ℕ → ℕ → Number
+hexByteOf [] at = Bad at
+hexByteOf (a ∷ rest) at = cond (ltb (digitOf a) 16) (hexSecond (digitOf a) rest (at + 1)) (Bad at)
+
+unfoldable pub hexByteAt : List ℕ → ℕ → Number
+hexByteAt s at = hexByteOf (drop at s) at
+
+-- ---- "Data in hex, two capital digits and no spaces"
+
+unfoldable pub capital : ℕ → ℕ
+capital d = cond (ltb d 10) (48 + d) (55 + d)
+
+unfoldable pub hexText : List ℕ → List ℕ
+hexText [] = []
+hexText (b ∷ bs) = capital (b / 16) ∷ capital (b % 16) ∷ hexText bs

@@ -1,0 +1,34 @@
+// Bytes, blanks, words, decimal numbers and hex data: read from a place of a slice, and written into a lent one.
+
+// A number with the place after it, or the place of the first byte that cannot be taken.
+pub enum Number {
+    Value(u32, usize),
+    Bad(usize),
+}
+
+// What a byte of hex data does: it cannot be taken, it parts, it begins a pair, or it makes a whole byte.
+pub enum HexStep {
+    Refuse,
+    Skip,
+    First(u8),
+    Whole(u8),
+}
+
+// How many bytes hex data are, or the place of the first byte that cannot be taken.
+pub enum HexCount {
+    Of(usize),
+    Not(usize),
+}
+
+// How many bytes were read, the place of the first byte that cannot be taken, or that there is no room.
+pub enum HexRead {
+    Bytes(usize),
+    Wrong(usize),
+    Full,
+}
+
+// The place after what was written, or that there is no room.
+pub enum Put {
+    Next(usize),
+    NoRoom,
+}
