@@ -1,0 +1,24 @@
+use Rattle.language.proofs.Coding.{within-pool}
+use mathlib.Core.Path.{sym, _∙_}
+use borrow.Author.Needs.{needs}
+use Rattle.language.proofs.coder.wait_data.Statement.{statement}
+use Rattle.language.proofs.coder.wait_data.Tie as tie
+use Rattle.language.proofs.coder.wait_data.Reads as reads
+use Rattle.language.proofs.coder.wait_data.Lts as lts
+use Rattle.language.proofs.coder.span_of.Reads as span-of-reads
+use Rattle.language.proofs.coder.span_right.Reads as span-right-reads
+
+span-right-requires : tie.Need-span-right-requires
+span-right-requires c κs = search needs
+
+span-of-requires : tie.Need-span-of-requires
+span-of-requires c κs = within-pool 1 115 (c .before .before .args .argument) (sym (c .before .span-right .ensures) ∙ c .if1 .taken)
+
+returns : tie.Need-returns
+returns c = ?
+
+returns-2 : tie.Need-returns-2
+returns-2 c = ?
+
+pub wait-data-spec : {M : Type 1} → statement M
+wait-data-spec = tie.close (tie.spec span-right-requires span-of-requires returns returns-2)

@@ -1,0 +1,78 @@
+-- Document 01, "`#WAIT CLOCK`": clock values. A clock value is the list of the fixed units' values, the longest unit first: at most
+-- day, hour, minute, second; empty where every second matches.
+use Prim.Native.Nat.{ℕ, _+_}
+use mathlib.Core.Bool.{Bool, cond, _&&_}
+use mathlib.Core.List.{List, [], _∷_, _++_}
+use lib.ListN.{drop}
+use lib.Dec.{leb, eqb}
+use Rattle.reader.specs.Bytes.{same}
+use Rattle.reader.specs.Number.{pairAt}
+use Rattle.reader.specs.Hex.{Said, good, bad, before}
+use Rattle.reader.specs.Put.{twoDigits}
+use Rattle.reader.specs.declared.Number.{Number}
+use Rattle.reader.specs.declared.Number.the-variants.{Value, Bad}
+
+-- the range of a unit
+pub record Range : Type 0 where
+  pub low : ℕ
+  pub high : ℕ
+
+abbrev pub range : ℕ → ℕ → Range
+range a e = record { low = a; high = e }
+
+unfoldable pub within : Range → ℕ → Bool
+within r v = leb (r .low) v && leb v (r .high)
+
+-- "D 01 to 31, h to 23, m and s to 59": a unit and each shorter one
+abbrev pub secondOn : List Range
+secondOn = range 0 59 ∷ []
+
+abbrev pub minuteOn : List Range
+minuteOn = range 0 59 ∷ secondOn
+
+abbrev pub hourOn : List Range
+hourOn = range 0 23 ∷ minuteOn
+
+abbrev pub dayOn : List Range
+dayOn = range 1 31 ∷ hourOn
+
+-- a value that was read, in front of the others
+unfoldable pub valueBefore : Number → Said → Said
+valueBefore (Value v next) rest = before v rest
+valueBefore (Bad at) rest = bad at
+
+-- "two digits for that unit and each shorter one, any of the last left out. Left-out shorter units are 00"
+unfoldable pub fill : List Range → List ℕ → Said
+fill [] l = cond (same l []) (good []) (bad 0)
+fill (r ∷ rs) [] = before 0 (fill rs [])
+fill (r ∷ rs) (b ∷ l) = valueBefore (pairAt (r .low) (r .high) (b ∷ l) 0) (fill rs (drop 1 l))
+
+-- "with no digits the first unit matches all too"
+unfoldable pub from : List Range → List ℕ → Said
+from [] l = bad 0
+from (r ∷ rs) [] = fill rs []
+from (r ∷ rs) (b ∷ l) = fill (r ∷ rs) (b ∷ l)
+
+-- "unit D, h, m or s (none is h)"
+unfoldable pub clockOf : List ℕ → Said
+clockOf [] = from hourOn []
+clockOf (b ∷ l) =
+    cond (eqb b 68) (from dayOn l)
+    (cond (eqb b 104) (from hourOn l)
+    (cond (eqb b 109) (from minuteOn l)
+    (cond (eqb b 115) (from secondOn l) (from hourOn (b ∷ l)))))
+
+-- "the first fixed unit and every shorter one in full, or `s`"
+unfoldable pub inTwos : List ℕ → List ℕ
+inTwos [] = []
+inTwos (v ∷ vs) = twoDigits v ++ inTwos vs
+
+unfoldable pub clockLetter : List ℕ → ℕ
+clockLetter [] = 115
+clockLetter (s ∷ []) = 115
+clockLetter (m ∷ s ∷ []) = 109
+clockLetter (h ∷ m ∷ s ∷ []) = 104
+clockLetter (d ∷ h ∷ m ∷ s ∷ more) = 68
+
+unfoldable pub clockText : List ℕ → List ℕ
+clockText vs = clockLetter vs ∷ inTwos vs

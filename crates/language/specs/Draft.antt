@@ -1,0 +1,169 @@
+-- The script under construction, and what a line does to it. Document 01: "12 is first. Then the first faulty line; within it the
+-- order above. The end of the text comes after all lines, 11 last."
+use Prim.Native.Nat.{ℕ, _+_}
+use mathlib.Core.Bool.{Bool, true, false, cond}
+use mathlib.Core.List.{List, [], _∷_, _++_}
+use lib.ListN.{length}
+use lib.Dec.{ltb, leb}
+use Rattle.language.specs.declared.Fault.{Fault}
+use Rattle.language.specs.declared.Fault.the-variants.{TextTooLong, LineTooLong, TooManyLines, TooMuchData, TooManyOmits, TooManyLoops, EndWithoutLoop, LoopLeftOpen, TooManyProcesses, StretchTooLong}
+use Rattle.language.specs.Lines.{linesOf}
+use Rattle.language.specs.Script.{Statement, Meaning, comment, blank, process, setEx, says, setEncode, setStopbits, setOmit, setLfext, fault, byte, Settings, default, Item, does, next, Script, processes, Shape, opens, closes, stays, shape, dataOf}
+use Rattle.language.specs.Meaning.{meaning}
+
+-- what a text comes to: a script, or a fault with the line that it names
+pub data Result : Type 0 where
+  accepted : Script → Result
+  refused : Fault → ℕ → Result
+
+-- what the lines so far have used up
+pub record Draft : Type 0 where
+  pub counted : ℕ  -- lines besides comments
+  pub used : ℕ  -- bytes of data
+  pub loops : List ℕ  -- the lines of the open loops, the innermost first
+  pub count : ℕ  -- processes begun
+  pub begun : Bool  -- a statement or a PROCESS line has come
+  pub settings : Settings
+  pub body : List Item
+
+unfoldable pub start : Draft
+start = record { counted = 0; used = 0; loops = []; count = 1; begun = false; settings = default; body = [] }
+
+pub data Taken : Type 0 where
+  going : Draft → Taken
+  stop : Fault → ℕ → Taken
+
+-- one more line counted
+unfoldable pub countLine : Draft → Draft
+countLine st =
+    record { counted = st .counted + 1; used = st .used; loops = st .loops; count = st .count; begun = st .begun; settings = st .settings; body = st .body }
+
+-- the state with other settings, and with one more item, `loops` being the loops open after it
+unfoldable pub withSettings : Draft → Settings → Draft
+withSettings st s =
+    record { counted = st .counted; used = st .used; loops = st .loops; count = st .count; begun = st .begun; settings = s; body = st .body }
+
+unfoldable pub withItem : Draft → List ℕ → Statement → Draft
+withItem st loops s =
+    record {
+      counted = st .counted;
+      used = st .used + length (dataOf s);
+      loops = loops;
+      count = st .count;
+      begun = true;
+      settings = st .settings;
+      body = st .body ++ does s ∷ [];
+    }
+
+-- the loops open after a statement, or the number of its fault: "ninth open loop" 6, "END with none open" 7
+pub data Nested : Type 0 where
+  now : List ℕ → Nested
+  broken : Fault → Nested
+
+unfoldable pub nest : ℕ → Shape → List ℕ → Nested
+nest row stays ls = now ls
+nest row opens ls = cond (ltb (length ls) 8) (now (row ∷ ls)) (broken TooManyLoops)
+nest row closes [] = broken EndWithoutLoop
+nest row closes (l ∷ ls) = now ls
+
+unfoldable pub takeNested : ℕ → Draft → Statement → Nested → Taken
+takeNested row st s (now ls) = going (withItem st ls s)
+takeNested row st s (broken n) = stop n row
+
+-- "data over 1,024" 5
+unfoldable pub takeStatement : ℕ → Draft → Statement → Taken
+takeStatement row st s =
+    cond (leb (st .used + length (dataOf s)) 1024) (takeNested row st s (nest row (shape s) (st .loops))) (stop TooMuchData row)
+
+-- the state after a PROCESS line that begins the next process, and after one that begins the first
+unfoldable pub withNext : Draft → Draft
+withNext st =
+    record {
+      counted = st .counted;
+      used = st .used;
+      loops = [];
+      count = st .count + 1;
+      begun = true;
+      settings = st .settings;
+      body = st .body ++ next ∷ [];
+    }
+
+unfoldable pub withFirst : Draft → Draft
+withFirst st =
+    record { counted = st .counted; used = st .used; loops = []; count = st .count; begun = true; settings = st .settings; body = st .body }
+
+-- "the script's first such line, if no statement comes before it, begins the first process, and every other one the next"
+unfoldable pub beginning : ℕ → Draft → Taken
+beginning row st = cond (st .begun) (cond (ltb (st .count) 8) (going (withNext st)) (stop TooManyProcesses row)) (going (withFirst st))
+
+-- "loop open at a PROCESS line: line of the innermost" 8, "ninth process" 9
+unfoldable pub takeProcess : ℕ → Draft → List ℕ → Taken
+takeProcess row st [] = beginning row st
+takeProcess row st (l ∷ ls) = stop LoopLeftOpen l
+
+unfoldable pub takeOmit : ℕ → Draft → Settings → List ℕ → Taken
+takeOmit row st s bs =
+    cond (leb (length (s .omit ++ bs)) 10)
+    (going (withSettings st (record { encode = s .encode; twoStopbits = s .twoStopbits; omit = s .omit ++ bs; lfext = s .lfext })))
+    (stop TooManyOmits row)
+
+-- a line that counts, by its meaning
+unfoldable pub take : ℕ → Draft → Meaning → Taken
+take row st comment = going st
+take row st blank = going st
+take row st process = takeProcess row st (st .loops)
+take row st setEx = going st
+take row st (says s) = takeStatement row st s
+take row st (setEncode b) =
+    going (withSettings st (record { encode = byte b; twoStopbits = st .settings .twoStopbits; omit = st .settings .omit; lfext = st .settings .lfext }))
+take row st (setStopbits two) =
+    going (withSettings st (record { encode = st .settings .encode; twoStopbits = two; omit = st .settings .omit; lfext = st .settings .lfext }))
+take row st (setOmit bs) = takeOmit row st (st .settings) bs
+take row st (setLfext e) =
+    going (withSettings st (record { encode = st .settings .encode; twoStopbits = st .settings .twoStopbits; omit = st .settings .omit; lfext = e }))
+take row st (fault n) = stop n row
+
+-- "513th counted line" 2
+unfoldable pub takeCounted : ℕ → Draft → Meaning → Taken
+takeCounted row st m = cond (ltb (st .counted) 512) (take row (countLine st) m) (stop TooManyLines row)
+
+unfoldable pub isComment : Meaning → Bool
+isComment comment = true
+isComment blank = false
+isComment process = false
+isComment setEx = false
+isComment (says s) = false
+isComment (setEncode b) = false
+isComment (setStopbits two) = false
+isComment (setOmit bs) = false
+isComment (setLfext e) = false
+isComment (fault n) = false
+
+-- "line over 127" 1
+unfoldable pub takeLine : ℕ → Draft → List ℕ → Taken
+takeLine row st l =
+    cond (ltb 127 (length l)) (stop LineTooLong row)
+    (cond (isComment (meaning l)) (going st) (takeCounted row st (meaning l)))
+
+-- a fault ends the fold
+unfoldable pub after : Taken → (Draft → Result) → Result
+after (going st) go = go st
+after (stop n row) go = refused n row
+
+-- "stretch over 4,096: lowest process number, from 1, in place of a line" 11: the stretch of a process is given
+module _ (stretch : List Statement → ℕ) where
+  unfoldable pub stretched : List (List Statement) → ℕ → Script → Result
+  stretched [] number s = accepted s
+  stretched (p ∷ ps) number s = cond (leb (stretch p) 4096) (stretched ps (number + 1) s) (refused StretchTooLong number)
+
+  unfoldable pub finished : Script → List ℕ → Result
+  finished s [] = stretched (processes (s .body)) 1 s
+  finished s (l ∷ ls) = refused LoopLeftOpen l
+
+  unfoldable pub fold : List (List ℕ) → ℕ → Draft → Result
+  fold [] row st = finished (record { settings = st .settings; body = st .body }) (st .loops)
+  fold (l ∷ ls) row st = after (takeLine row st l) (λ st₁. fold ls (row + 1) st₁)
+
+  -- "text over 65,536 bytes (line 0)" 12
+  unfoldable pub compiled : List ℕ → Result
+  compiled s = cond (leb (length s) 65536) (fold (linesOf s) 1 start) (refused TextTooLong 0)

@@ -1,0 +1,100 @@
+-- Document 01, "The listing". "CR LF after each line. One line per written statement line."
+use Prim.Native.Nat.{ℕ, _+_, _*_, _/_}
+use mathlib.Core.Bool.{Bool, true, false, cond, _&&_, not}
+use mathlib.Core.List.{List, [], _∷_, _++_}
+use lib.ListN.{length}
+use lib.Dec.{leb, eqb}
+use Rattle.reader.specs.Ascii.{ascii}
+use Rattle.reader.specs.Bytes.{all, same}
+use Rattle.reader.specs.Put.{decimal}
+use Rattle.reader.specs.Hex.{hexText}
+use Rattle.language.specs.Clock.{clockText}
+use Rattle.language.specs.Script.{Statement, send, loop, end, waitTime, waitData, waitByte, waitClock, waitSignal, rts, log, fchange, pause, resume, nop, Encode, unset, byte, Settings, Item, does, next, Script}
+
+-- "Data in hex where a byte lies outside 20h to 7Eh and the line fits in 127; else text": `room` is what the line has left
+-- after the mark
+unfoldable pub isPlain : ℕ → Bool
+isPlain b = leb 32 b && leb b 126
+
+unfoldable pub inHex : ℕ → List ℕ → Bool
+inHex room bs = not (all isPlain bs) && leb (length bs * 2) room
+
+unfoldable pub dataText : ℕ → List ℕ → List ℕ
+dataText room bs = cond (inHex room bs) (58 ∷ hexText bs) (47 ∷ bs)
+
+-- "`#LOOP EVER` or the count"
+unfoldable pub countText : ℕ → List ℕ
+countText n = cond (eqb n 0) (ascii "EVER") (decimal n)
+
+-- "Times up to 60000 ms in MS, longer in S"
+unfoldable pub timeText : ℕ → List ℕ
+timeText n = cond (leb n 60000) (decimal n ++ ascii "MS") (decimal (n / 1000) ++ ascii "S")
+
+unfoldable pub onText : Bool → List ℕ
+onText true = ascii "ON"
+onText false = ascii "OFF"
+
+unfoldable pub signalText : ℕ → List ℕ
+signalText n = cond (eqb n 0) (ascii "CTS") (69 ∷ 88 ∷ (48 + n) ∷ [])
+
+-- "LOG as written, `#LOG` if empty"
+unfoldable pub logText : List ℕ → List ℕ
+logText [] = ascii "#LOG"
+logText (b ∷ text) = ascii "#LOG " ++ b ∷ text
+
+unfoldable pub lineFor : Statement → List ℕ
+lineFor (send bs) = dataText 126 bs
+lineFor (loop n) = ascii "#LOOP " ++ countText n
+lineFor end = ascii "#END"
+lineFor (waitTime n) = ascii "#WAIT TIME " ++ timeText n
+lineFor (waitData bs) = ascii "#WAIT DATA " ++ dataText 115 bs
+lineFor (waitByte n) = ascii "#WAIT BYTE " ++ decimal n
+lineFor (waitClock vs) = ascii "#WAIT CLOCK " ++ clockText vs
+lineFor (waitSignal n on) = ascii "#WAIT " ++ (signalText n ++ onText on)
+lineFor (rts on) = ascii "#RTS " ++ onText on
+lineFor (log text) = logText text
+lineFor fchange = ascii "#FCHANGE"
+lineFor pause = ascii "#PAUSE"
+lineFor resume = ascii "#RESUME"
+lineFor nop = ascii "#NOP"
+
+-- "`#PROCESS` precedes every process but the first"
+unfoldable pub itemLine : Item → List ℕ
+itemLine (does s) = lineFor s
+itemLine next = ascii "#PROCESS"
+
+unfoldable pub itemLines : List Item → List (List ℕ)
+itemLines [] = []
+itemLines (i ∷ is) = itemLine i ∷ itemLines is
+
+-- "and the first too if it is empty and others follow"
+unfoldable pub bodyLines : List Item → List (List ℕ)
+bodyLines [] = []
+bodyLines (does s ∷ is) = itemLines (does s ∷ is)
+bodyLines (next ∷ is) = ascii "#PROCESS" ∷ itemLines (next ∷ is)
+
+-- "First, in this order, if not default"
+abbrev pub when : Bool → List ℕ → List (List ℕ)
+when true l = l ∷ []
+when false l = []
+
+unfoldable pub encodeLines : Encode → List (List ℕ)
+encodeLines unset = []
+encodeLines (byte b) = (ascii "#f:ENCODE :" ++ hexText (b ∷ [])) ∷ []
+
+unfoldable pub settingLines : Settings → List (List ℕ)
+settingLines s =
+    encodeLines (s .encode)
+    ++ (when (s .twoStopbits) (ascii "#f:STOPBITS 2")
+    ++ (when (not (same (s .omit) [])) (ascii "#f:OMIT :" ++ hexText (s .omit))
+    ++ when (not (same (s .lfext) (ascii "LOG"))) (ascii "#f:LFEXT " ++ (s .lfext))))
+
+unfoldable pub listedLines : Script → List (List ℕ)
+listedLines s = settingLines (s .settings) ++ bodyLines (s .body)
+
+unfoldable pub joined : List (List ℕ) → List ℕ
+joined [] = []
+joined (l ∷ ls) = l ++ 13 ∷ 10 ∷ joined ls
+
+unfoldable pub listing : Script → List ℕ
+listing s = joined (listedLines s)

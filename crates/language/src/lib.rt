@@ -1,0 +1,121 @@
+// What a script is: the table that it is laid out in, what the compiler answers, and the coder of the table's cells.
+
+// "Text 65,536 bytes": the longest text.
+pub const TEXT: usize = 65536;
+
+// "At most 512 lines besides comments": as many cells has a table.
+pub const LINES: usize = 512;
+
+// "Data of data lines, WAIT DATA and LOG (as written) 1,024 bytes in all".
+pub const DATA: usize = 1024;
+
+// "8 loops deep".
+pub const LOOPS: usize = 8;
+
+// "8 processes".
+pub const PROCESSES: usize = 8;
+
+// "10 OMIT bytes".
+pub const OMITS: usize = 10;
+
+// A word for each written statement line: its kind, and below 2 ^ 26 its argument.
+pub type Cells = [u32; LINES];
+
+// The bytes of the data, one after the other.
+pub type Pool = [u8; DATA];
+
+// What else a table holds.
+pub struct Heads {
+    // How many processes there are, and the place behind the last cell of each.
+    pub processes: u8,
+    pub ends: [u16; PROCESSES],
+    // How many bytes of the pool are used.
+    pub used: u16,
+    // Whether there is an ENCODE byte, and which.
+    pub encodes: bool,
+    pub encode: u8,
+    pub two_stop_bits: bool,
+    // How many OMIT bytes there are, and which.
+    pub omits: u8,
+    pub omit: [u8; OMITS],
+    // The letters of LFEXT, with zeros behind them.
+    pub extension: [u8; 3],
+}
+
+pub struct Table {
+    pub cells: Cells,
+    pub pool: Pool,
+    pub heads: Heads,
+}
+
+// Where data lie in the pool.
+pub struct Span {
+    pub from: u16,
+    pub count: u16,
+}
+
+// A clock value: how many units are fixed, of second, minute, hour and day in this order, and their values; the others are 0.
+pub struct Clock {
+    pub fixed: u8,
+    pub day: u8,
+    pub hour: u8,
+    pub minute: u8,
+    pub second: u8,
+}
+
+// A signal, 0 for CTS and 1 to 4 for EX, and a level of it.
+pub struct Level {
+    pub signal: u8,
+    pub on: bool,
+}
+
+// What a cell says: no statement, a statement, or nothing that a line can say.
+pub enum Cell {
+    Nothing,
+    Send(Span),
+    Loop(u16),
+    End,
+    WaitTime(u32),
+    WaitData(Span),
+    WaitByte(u16),
+    WaitClock(Clock),
+    WaitSignal(Level),
+    Rts(bool),
+    Log(Span),
+    Fchange,
+    Pause,
+    Resume,
+    Nop,
+    Unknown,
+}
+
+// Why a text is refused.
+pub enum Fault {
+    TextTooLong,
+    LineTooLong,
+    TooManyLines,
+    NoSuchName,
+    BadRest,
+    TooMuchData,
+    TooManyOmits,
+    TooManyLoops,
+    EndWithoutLoop,
+    LoopLeftOpen,
+    TooManyProcesses,
+    StretchTooLong,
+}
+
+// The compiler's answer: the largest stretch of any process; or a fault, with the line that it names, the process for
+// StretchTooLong, 0 for TextTooLong.
+pub enum Answer {
+    Accepted(u32),
+    Refused(Fault, u32),
+}
+
+// The answer and the table, which is all zeros with a refusal.
+pub struct Compiled {
+    pub answer: Answer,
+    pub table: Table,
+}
+
+pub mod coder;
