@@ -68,6 +68,11 @@ unfoldable pub hexPut : Said → List ℕ → ℕ → List ℕ
 hexPut (bad at) d to = d
 hexPut (good bs) d to = cond (leb (to + length bs) (length d)) (sets d to bs) d
 
+-- the same data, their place moved on by `k`
+unfoldable pub movedSaid : ℕ → Said → Said
+movedSaid k (good bs) = good bs
+movedSaid k (bad at) = bad (k + at)
+
 -- ---- "`:` and one or two hex digits; more is ignored": one byte, as ENCODE needs it
 
 -- after the first digit `h`: a second one, or none

@@ -47,3 +47,8 @@ pairOf low high (a ∷ rest) at =
 
 unfoldable pub pairAt : ℕ → ℕ → List ℕ → ℕ → Number
 pairAt low high s at = pairOf low high (drop at s) at
+
+-- ---- the same answer, its place moved on by `k`
+unfoldable pub moved : ℕ → Number → Number
+moved k (Value v at) = Value v (k + at)
+moved k (Bad at) = Bad (k + at)

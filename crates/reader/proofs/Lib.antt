@@ -1,0 +1,11 @@
+pub mod Once
+pub mod Tests
+pub mod Same
+pub mod Digits
+pub mod Solid
+pub mod Decimals
+pub mod Hexes
+pub mod Back
+pub mod Moved
+pub mod Final
+pub mod Places
