@@ -1,5 +1,6 @@
 // The coder of the table's cells: a cell in one word, and the cell of a word. Nothing else takes a word apart.
 ghost use mathlib.Core.Path.{_≡_};
+ghost use mathlib.Core.Bool.{_&&_};
 ghost use Prim.Native.Nat.{_+_, _*_, _/_, _%_, _<_};
 ghost use lib.Dec.{ltb, leb, eqb};
 ghost use lib.ListN.{getD};
@@ -180,22 +181,20 @@ fn unit_right(fixed: bool, low: u8, high: u8, value: u8) -> bool
     value == 0
 }
 
+fn both(a: bool, b: bool) -> bool
+    ensures { λ r. ⌜ r ≡ (a && b) ⌝ }
+{
+    if a { b } else { false }
+}
+
 fn fixed_right(c: Clock) -> bool
     ensures { λ r. ⌜ r ≡ fixedRight c ⌝ }
 {
-    if 4 < c.fixed {
-        return false;
-    }
-    if !unit_right(4 <= c.fixed, 1, 31, c.day) {
-        return false;
-    }
-    if !unit_right(3 <= c.fixed, 0, 23, c.hour) {
-        return false;
-    }
-    if !unit_right(2 <= c.fixed, 0, 59, c.minute) {
-        return false;
-    }
-    unit_right(1 <= c.fixed, 0, 59, c.second)
+    let day = unit_right(4 <= c.fixed, 1, 31, c.day);
+    let hour = unit_right(3 <= c.fixed, 0, 23, c.hour);
+    let minute = unit_right(2 <= c.fixed, 0, 59, c.minute);
+    let second = unit_right(1 <= c.fixed, 0, 59, c.second);
+    both(c.fixed <= 4, both(day, both(hour, both(minute, second))))
 }
 
 fn wait_clock(argument: u32) -> Cell

@@ -1,3 +1,4 @@
+use mathlib.Core.Path.{sym, _∙_}
 use borrow.Author.Needs.{needs}
 use Rattle.language.proofs.coder.wait_clock.Statement.{statement}
 use Rattle.language.proofs.coder.wait_clock.Tie as tie
@@ -24,10 +25,10 @@ fixed-right-requires : tie.Need-fixed-right-requires
 fixed-right-requires c κs = search needs
 
 returns : tie.Need-returns
-returns c = ?
+returns c = rw (sym (c .before .fixed-right .ensures) ∙ c .if1 .taken)
 
 returns-2 : tie.Need-returns-2
-returns-2 c = ?
+returns-2 c = rw (sym (c .before .fixed-right .ensures) ∙ c .if1 .left)
 
 pub wait-clock-spec : {M : Type 1} → statement M
 wait-clock-spec =

@@ -15,10 +15,10 @@ span-of-requires : tie.Need-span-of-requires
 span-of-requires c κs = within-pool 1 115 (c .before .before .args .argument) (sym (c .before .span-right .ensures) ∙ c .if1 .taken)
 
 returns : tie.Need-returns
-returns c = ?
+returns c = rw (sym (c .before .before .span-right .ensures) ∙ c .before .if1 .taken) (cc)
 
 returns-2 : tie.Need-returns-2
-returns-2 c = ?
+returns-2 c = rw (sym (c .before .span-right .ensures) ∙ c .if1 .left)
 
 pub wait-data-spec : {M : Type 1} → statement M
 wait-data-spec = tie.close (tie.spec span-right-requires span-of-requires returns returns-2)
