@@ -27,7 +27,7 @@ bit false = 0
 
 -- ---- the word of a cell
 
-unfoldable pub kindOf : Cell → ℕ
+abbrev pub kindOf : Cell → ℕ
 kindOf Nothing = 0
 kindOf (Send s) = 1
 kindOf (Loop n) = 2
@@ -53,7 +53,7 @@ spanNumber s = s .from * 128 + s .count
 unfoldable pub clockNumber : Clock → ℕ
 clockNumber c = c .fixed * 4194304 + (c .day * 131072 + (c .hour * 4096 + (c .minute * 64 + c .second)))
 
-unfoldable pub argumentOf : Cell → ℕ
+abbrev pub argumentOf : Cell → ℕ
 argumentOf Nothing = 0
 argumentOf (Send s) = spanNumber s
 argumentOf (Loop n) = n

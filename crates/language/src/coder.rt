@@ -6,9 +6,9 @@ ghost use lib.Dec.{ltb, leb, eqb};
 ghost use lib.ListN.{getD};
 ghost use Rattle.language.specs.Clock.{range};
 ghost use Rattle.language.specs.Right.{timeRight};
-ghost use Rattle.language.specs.Cell.{level, bit, spanNumber, clockNumber, coded, spanRight, unitRight, fixedRight, when, spanOf, clockOfNumber, decoded};
+ghost use Rattle.language.specs.Cell.{level, bit, kindOf, argumentOf, spanNumber, clockNumber, coded, spanRight, unitRight, fixedRight, when, spanOf, clockOfNumber, decoded};
 
-use crate::{Cell, Cells, Clock, LINES, Level, Span};
+use crate::{Cell, Cells, Clock, Level, Span};
 
 // A word holds its kind times this, and its argument below.
 const KIND: u32 = 67108864;
@@ -43,28 +43,64 @@ fn flag(on: bool) -> u32
     if on { 1 } else { 0 }
 }
 
+fn signal_number(l: Level) -> u32
+    ensures { λ r. ⌜ r ≡ l .signal * 2 + bit (l .on) ⌝ }
+{
+    let signal = l.signal as u32 * 2;
+    if l.on { signal + 1 } else { signal }
+}
+
+fn kind(c: Cell) -> u32
+    ensures { λ r. ⌜ r ≡ kindOf c ⌝ }
+{
+    match c {
+        Cell::Nothing => 0,
+        Cell::Send(_) => 1,
+        Cell::Loop(_) => 2,
+        Cell::End => 3,
+        Cell::WaitTime(_) => 4,
+        Cell::WaitData(_) => 5,
+        Cell::WaitByte(_) => 6,
+        Cell::WaitClock(_) => 7,
+        Cell::WaitSignal(_) => 8,
+        Cell::Rts(_) => 9,
+        Cell::Log(_) => 10,
+        Cell::Fchange => 11,
+        Cell::Pause => 12,
+        Cell::Resume => 13,
+        Cell::Nop => 14,
+        Cell::Unknown => 15,
+    }
+}
+
+fn argument(c: Cell) -> u32
+    ensures { λ r. ⌜ r ≡ argumentOf c ⌝ }
+{
+    match c {
+        Cell::Nothing => 0,
+        Cell::Send(s) => span_number(s),
+        Cell::Loop(n) => n as u32,
+        Cell::End => 0,
+        Cell::WaitTime(n) => n,
+        Cell::WaitData(s) => span_number(s),
+        Cell::WaitByte(n) => n as u32,
+        Cell::WaitClock(c) => clock_number(c),
+        Cell::WaitSignal(l) => signal_number(l),
+        Cell::Rts(on) => flag(on),
+        Cell::Log(s) => span_number(s),
+        Cell::Fchange => 0,
+        Cell::Pause => 0,
+        Cell::Resume => 0,
+        Cell::Nop => 0,
+        Cell::Unknown => 0,
+    }
+}
+
 // The word of a cell.
 pub fn code(c: Cell) -> u32
     ensures { λ r. ⌜ r ≡ coded c ⌝ }
 {
-    match c {
-        Cell::Nothing => word(0, 0),
-        Cell::Send(s) => word(1, span_number(s)),
-        Cell::Loop(n) => word(2, n as u32),
-        Cell::End => word(3, 0),
-        Cell::WaitTime(n) => word(4, n),
-        Cell::WaitData(s) => word(5, span_number(s)),
-        Cell::WaitByte(n) => word(6, n as u32),
-        Cell::WaitClock(c) => word(7, clock_number(c)),
-        Cell::WaitSignal(l) => word(8, l.signal as u32 * 2 + flag(l.on)),
-        Cell::Rts(on) => word(9, flag(on)),
-        Cell::Log(s) => word(10, span_number(s)),
-        Cell::Fchange => word(11, 0),
-        Cell::Pause => word(12, 0),
-        Cell::Resume => word(13, 0),
-        Cell::Nop => word(14, 0),
-        Cell::Unknown => word(15, 0),
-    }
+    word(kind(c), argument(c))
 }
 
 // ---- the cell of a word
@@ -267,8 +303,9 @@ pub fn decode(w: u32) -> Cell
 pub fn cell_at(cells: &Cells, at: usize) -> Cell
     ensures { λ r. ⌜ r ≡ decoded (getD (now (cells .entry)) at 0) ⌝ }
 {
-    if at < LINES {
-        decode(cells[at])
+    let words: &[u32] = cells;
+    if at < words.len() {
+        decode(words[at])
     } else {
         Cell::Nothing
     }

@@ -1,15 +1,15 @@
+-- `language::coder::cell_at` meets its contract. Assumes nothing.
+use denote.Ref.{now}
+use Rattle.language.proofs.Coding.{nothing-behind}
 use borrow.Author.Needs.{needs}
 use Rattle.language.proofs.coder.cell_at.Statement.{statement}
 use Rattle.language.proofs.coder.cell_at.Tie as tie
-use Rattle.language.proofs.coder.cell_at.Reads as reads
-use Rattle.language.proofs.coder.cell_at.Lts as lts
-use Rattle.language.proofs.coder.decode.Reads as decode-reads
 
 mul-decode : tie.Need-mul-decode
 mul-decode c = search needs
 
-element-copy-out-decode : tie.Need-element-copy-out-decode
-element-copy-out-decode c = search needs
+shared-slice-read-decode : tie.Need-shared-slice-read-decode
+shared-slice-read-decode c = search needs
 
 decode-requires : tie.Need-decode-requires
 decode-requires c κs = search needs
@@ -18,8 +18,8 @@ returns : tie.Need-returns
 returns c = search needs
 
 returns-2 : tie.Need-returns-2
-returns-2 c = ?
+returns-2 c = let a = c .before .before .args in nothing-behind (now (a .cells)) (a .at) (c .if1 .left)
 
 pub cell-at-spec : {M : Type 1} → statement M
 cell-at-spec =
-    tie.close (tie.spec mul-decode element-copy-out-decode decode-requires returns returns-2)
+    tie.close (tie.spec mul-decode shared-slice-read-decode decode-requires returns returns-2)
