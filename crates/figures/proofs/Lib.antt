@@ -11,3 +11,4 @@ pub mod Shapes
 pub mod Reading
 pub mod Nesting
 pub mod Scanning
+pub mod Counting
