@@ -1,0 +1,55 @@
+-- Capping: the capped figures of a join follow from the capped figures of its parts. Assumes nothing.
+use mathlib.Core.Path.{_≡_, refl, ap, sym, _∙_}
+use mathlib.Core.Bool.{Bool, true, false, cond}
+use Prim.Native.Nat.{ℕ, _+_, max}
+use native.Mathlib.Omega.{arith}
+use Rattle.figures.specs.declared.Figures.{Figures}
+use Rattle.figures.specs.Joining.{fig, cap, capped, join, joined}
+use Rattle.figures.proofs.Associative.{fig-path, join-assoc}
+
+pub cap-cap : (a : ℕ) → cap (cap a) ≡ cap a
+cap-cap a = omega arith
+
+pub cap-add : (a b : ℕ) → cap (cap a + cap b) ≡ cap (a + b)
+cap-add a b = omega arith
+
+pub cap-max : (a b : ℕ) → cap (max a b) ≡ max (cap a) (cap b)
+cap-max a b = omega arith
+
+pub capped-capped : (a : Figures) → capped (capped a) ≡ capped a
+unfolding capped
+capped-capped a = fig-path refl refl (cap-cap (a .first)) (cap-cap (a .last)) (cap-cap (a .longest))
+
+cap-first : (a : Bool) (x y : ℕ) → cap (cond a (cap x) (cap x + cap y)) ≡ cap (cond a x (x + y))
+cap-first true x y = cap-cap x
+cap-first false x y = cap-add x y
+
+cap-last : (a b : Bool) (x y z w : ℕ) → cap (cond b (cap w) (cond a (cap x) (cap y) + cap z)) ≡ cap (cond b w (cond a x y + z))
+cap-last true true x y z w = cap-cap w
+cap-last false true x y z w = cap-cap w
+cap-last true false x y z w = cap-add x z
+cap-last false false x y z w = cap-add y z
+
+cap-longest : (a : Bool) (p q x y z : ℕ) → cap (max (max (cap p) (cap q)) (cond a (cap x) (cap y) + cap z)) ≡ cap (max (max p q) (cond a x y + z))
+cap-longest true p q x y z = simp (cap-max, cap-cap, cap-add)
+cap-longest false p q x y z = simp (cap-max, cap-cap, cap-add)
+
+parts : (ae ar br be : Bool) (af al ag bf bl bg : ℕ) →
+    capped (join (capped (fig ar ae af al ag)) (capped (fig br be bf bl bg))) ≡ capped (join (fig ar ae af al ag) (fig br be bf bl bg))
+unfolding capped join
+parts false ar br be af al ag bf bl bg = fig-path refl refl (cap-cap af) (cap-cap al) (cap-cap ag)
+parts true ar br be af al ag bf bl bg = fig-path refl refl (cap-first ar af bf) (cap-last ar br al af bf bl) (cap-longest ar ag bg al af bf)
+
+-- capping the parts first changes nothing
+pub cap-join : (a b : Figures) → joined (capped a) (capped b) ≡ joined a b
+cap-join a b = parts (a .ends) (a .rests) (b .rests) (b .ends) (a .first) (a .last) (a .longest) (b .first) (b .last) (b .longest)
+
+pub cap-left : (a b : Figures) → joined (capped a) b ≡ joined a b
+cap-left a b = sym (cap-join (capped a) b) ∙ ap (λ (x : Figures). joined x (capped b)) (capped-capped a) ∙ cap-join a b
+
+pub cap-right : (a b : Figures) → joined a (capped b) ≡ joined a b
+cap-right a b = sym (cap-join a (capped b)) ∙ ap (λ (x : Figures). joined (capped a) x) (capped-capped b) ∙ cap-join a b
+
+-- the capped join is associative, for all figures
+pub joined-assoc : (a b c : Figures) → joined (joined a b) c ≡ joined a (joined b c)
+joined-assoc a b c = cap-left (join a b) c ∙ ap capped (join-assoc a b c) ∙ sym (cap-right a (join b c))

@@ -1,0 +1,14 @@
+pub mod Associative
+pub mod Capping
+pub mod Copying
+pub mod Telling
+pub mod Writing
+pub mod Gluing
+pub mod Growing
+pub mod Stretches
+pub mod Cases
+pub mod Shapes
+pub mod Reading
+pub mod Nesting
+pub mod Scanning
+pub mod Counting

@@ -1,0 +1,86 @@
+-- Figures of a fragment: what is to be known of it to join it to others. Assumes nothing: these are definitions.
+use mathlib.Core.Bool.{Bool, true, false, cond, _||_}
+use mathlib.Core.List.{List}
+use Prim.Native.Nat.{ℕ, zero, suc, _+_, _*_, max, min}
+use lib.Dec.{eqb}
+use Rattle.figures.specs.declared.Figures.{Figures}
+use Rattle.figures.specs.Fragment.{Fragment, stop, other, rest, loop}
+use Rattle.figures.specs.Written.{Done, longest, firstRun, lastRun, rested, ended}
+use Rattle.figures.specs.Stretch.{over}
+
+abbrev pub fig : Bool → Bool → ℕ → ℕ → ℕ → Figures
+fig r e f l g = record { rests = r; ends = e; first = f; last = l; longest = g }
+
+-- "whether it rests, whether it ever ends, its first, last and longest runs", read off a written-out form
+abbrev pub told : List Done → Figures
+told xs = fig (rested xs) (ended xs) (firstRun xs) (lastRun 0 xs) (longest xs)
+
+-- one statement that is no sure rest
+abbrev pub one : Figures
+one = fig false true 1 1 1
+
+-- a sure rest
+abbrev pub pause : Figures
+pause = fig true true 0 0 0
+
+-- "the empty fragment"
+abbrev pub empty : Figures
+empty = fig false true 0 0 0
+
+-- what stands behind the passes of a forever loop: it never ends
+abbrev pub never : Figures
+never = fig false false 0 0 0
+
+-- the last run, which in a fragment without a rest is the first
+abbrev pub lastOf : Figures → ℕ
+lastOf a = cond (a .rests) (a .last) (a .first)
+
+-- b after a, where a ends: the last run of a and the first of b are one run
+abbrev pub meld : Figures → Figures → Figures
+meld a b = fig (a .rests || b .rests) (b .ends)
+    (cond (a .rests) (a .first) (a .first + b .first))
+    (cond (b .rests) (b .last) (lastOf a + b .first))
+    (max (max (a .longest) (b .longest)) (lastOf a + b .first))
+
+-- "a forever loop .., after which nothing counts"
+unfoldable pub join : Figures → Figures → Figures
+join a b = cond (a .ends) (meld a b) a
+
+-- "capped at 4,097"
+abbrev pub cap : ℕ → ℕ
+cap n = min n over
+
+unfoldable pub capped : Figures → Figures
+capped a = fig (a .rests) (a .ends) (cap (a .first)) (cap (a .last)) (cap (a .longest))
+
+abbrev pub joined : Figures → Figures → Figures
+joined a b = capped (join a b)
+
+-- n copies of a end to end: where a rests, the last run of one meets the first of the next
+unfoldable pub again : ℕ → Figures → Figures
+again zero a = empty
+again (suc n) a = cond (a .ends)
+    (fig (a .rests) true
+    (cond (a .rests) (a .first) (suc n * a .first))
+    (cond (a .rests) (a .last) (suc n * a .first))
+    (max (a .longest) (cond (a .rests) (a .last + cond (eqb (suc n) 1) 0 (a .first)) (suc n * a .first))))
+    a
+
+abbrev pub copies : ℕ → Figures → Figures
+copies n a = capped (again n a)
+
+-- the passes of LOOP n with the body b, "END once per pass"; a forever loop shows in 4,097 passes all that it will ever show
+unfoldable pub looped : ℕ → Figures → Figures
+looped zero b = joined (copies over (joined b one)) never
+looped (suc n) b = copies (suc n) (joined b one)
+
+-- the figures of a fragment in closed form, "LOOP counts once on entry"
+unfoldable pub figures : Fragment → Figures
+figures stop = empty
+figures (other p) = joined one (figures p)
+figures (rest p) = joined pause (figures p)
+figures (loop n b p) = joined one (joined (looped n (figures b)) (figures p))
+
+-- the stretch, or 4,097 where it is over 4,096
+abbrev pub stretchOf : Fragment → ℕ
+stretchOf p = figures p .longest

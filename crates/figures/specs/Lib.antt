@@ -1,0 +1,7 @@
+pub mod Fragment
+pub mod Flat
+pub mod Written
+pub mod Stretch
+pub mod Joining
+pub mod Scan
+pub mod Cases

@@ -1,0 +1,162 @@
+// Figures of a fragment of a script: what is to be known of it to join it to others, each run capped at 4,097.
+mod runs;
+
+ghost use mathlib.Core.Path.{_≡_};
+ghost use Rattle.figures.specs.Joining.{capped, joined, one, pause, empty, never, copies, looped};
+use runs::choose;
+use runs::either;
+use runs::held;
+use runs::larger;
+use runs::meet;
+use runs::product;
+
+/// The longest stretch that a process may have.
+pub const LIMIT: u32 = 4096;
+// What stands for every run over the limit.
+const OVER: u32 = LIMIT + 1;
+
+/// Whether a fragment rests, whether it ever ends, and its first, last and longest runs.
+pub struct Figures {
+    pub rests: bool,
+    pub ends: bool,
+    pub first: u32,
+    pub last: u32,
+    pub longest: u32,
+}
+
+impl Figures {
+    /// The figures of one statement that is no sure rest.
+    pub fn plain() -> Figures
+        ensures { λ r. ⌜ r ≡ one ⌝ }
+    {
+        Figures {
+            rests: false,
+            ends: true,
+            first: 1,
+            last: 1,
+            longest: 1,
+        }
+    }
+
+    /// The figures of a sure rest.
+    pub fn sure_rest() -> Figures
+        ensures { λ r. ⌜ r ≡ pause ⌝ }
+    {
+        Figures {
+            rests: true,
+            ends: true,
+            first: 0,
+            last: 0,
+            longest: 0,
+        }
+    }
+
+    /// The figures of the empty fragment.
+    pub fn nothing() -> Figures
+        ensures { λ r. ⌜ r ≡ empty ⌝ }
+    {
+        Figures {
+            rests: false,
+            ends: true,
+            first: 0,
+            last: 0,
+            longest: 0,
+        }
+    }
+
+    // The figures of what stands behind the passes of a forever loop.
+    fn endless() -> Figures
+        ensures { λ r. ⌜ r ≡ never ⌝ }
+    {
+        Figures {
+            rests: false,
+            ends: false,
+            first: 0,
+            last: 0,
+            longest: 0,
+        }
+    }
+
+    // The same figures with each run capped.
+    fn hold(self) -> Figures
+        ensures { λ r. ⌜ r ≡ capped self ⌝ }
+    {
+        Figures {
+            rests: self.rests,
+            ends: self.ends,
+            first: held(self.first),
+            last: held(self.last),
+            longest: held(self.longest),
+        }
+    }
+
+    /// The figures of this fragment with the next one joined to its end.
+    pub fn join(self, next: Figures) -> Figures
+        ensures { λ r. ⌜ r ≡ joined self next ⌝ }
+    {
+        let ends = self.ends;
+        if ends {
+            let last = choose(self.rests, self.last, self.first);
+            Figures {
+                rests: either(self.rests, next.rests),
+                ends: next.ends,
+                first: choose(self.rests, held(self.first), meet(self.first, next.first)),
+                last: choose(next.rests, held(next.last), meet(last, next.first)),
+                longest: larger(
+                    larger(held(self.longest), held(next.longest)),
+                    meet(last, next.first),
+                ),
+            }
+        } else {
+            self.hold()
+        }
+    }
+
+    /// The figures of n copies of this fragment, end to end.
+    pub fn repeat(self, n: u32) -> Figures
+        ensures { λ r. ⌜ r ≡ copies n self ⌝ }
+    {
+        if n == 0 {
+            return Figures::nothing();
+        }
+        let ends = self.ends;
+        if ends {
+            let rests = self.rests;
+            if rests {
+                Figures {
+                    rests,
+                    ends,
+                    first: held(self.first),
+                    last: held(self.last),
+                    longest: larger(
+                        held(self.longest),
+                        meet(self.last, choose(n == 1, 0, self.first)),
+                    ),
+                }
+            } else {
+                let all = product(n, self.first);
+                Figures {
+                    rests,
+                    ends,
+                    first: all,
+                    last: all,
+                    longest: larger(held(self.longest), all),
+                }
+            }
+        } else {
+            self.hold()
+        }
+    }
+
+    /// The figures of all passes of LOOP n, 0 being forever, with this fragment as its body.
+    pub fn passes(self, n: u32) -> Figures
+        ensures { λ r. ⌜ r ≡ looped n self ⌝ }
+    {
+        let pass = self.join(Figures::plain());
+        if n == 0 {
+            pass.repeat(OVER).join(Figures::endless())
+        } else {
+            pass.repeat(n)
+        }
+    }
+}
