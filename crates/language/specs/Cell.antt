@@ -9,6 +9,7 @@ use Rattle.language.specs.declared.Clock.{Clock}
 use Rattle.language.specs.declared.Level.{Level}
 use Rattle.language.specs.declared.Cell.{Cell}
 use Rattle.language.specs.declared.Cell.the-variants.{Nothing, Send, Loop, End, WaitTime, WaitData, WaitByte, WaitClock, WaitSignal, Rts, Log, Fchange, Pause, Resume, Nop, Unknown}
+use Rattle.language.specs.Limits.{dataLimit, sendRoom, waitRoom, logRoom}
 use Rattle.language.specs.Clock.{Range, range, within}
 use Rattle.language.specs.Right.{timeRight}
 
@@ -78,7 +79,7 @@ coded c = kindOf c * 67108864 + argumentOf c % 67108864
 
 -- so many bytes as a line can hold, within the pool
 unfoldable pub spanRight : ℕ → ℕ → Span → Bool
-spanRight low high s = leb low (s .count) && (leb (s .count) high && leb (s .from + s .count) 1024)
+spanRight low high s = leb low (s .count) && (leb (s .count) high && leb (s .from + s .count) dataLimit)
 
 -- a unit that is fixed is in its range, any other is 0
 unfoldable pub unitRight : Bool → Range → ℕ → Bool
@@ -95,16 +96,16 @@ fixedRight c =
 
 unfoldable pub cellRight : Cell → Bool
 cellRight Nothing = true
-cellRight (Send s) = spanRight 0 126 s
+cellRight (Send s) = spanRight 0 sendRoom s
 cellRight (Loop n) = leb n 60000
 cellRight End = true
 cellRight (WaitTime n) = timeRight n
-cellRight (WaitData s) = spanRight 1 115 s
+cellRight (WaitData s) = spanRight 1 waitRoom s
 cellRight (WaitByte n) = leb n 60000
 cellRight (WaitClock c) = fixedRight c
 cellRight (WaitSignal l) = leb (l .signal) 4
 cellRight (Rts on) = true
-cellRight (Log s) = spanRight 0 122 s
+cellRight (Log s) = spanRight 0 logRoom s
 cellRight Fchange = true
 cellRight Pause = true
 cellRight Resume = true
@@ -126,16 +127,16 @@ clockOfNumber a = clock (a / 4194304) (a / 131072 % 32) (a / 4096 % 32) (a / 64 
 unfoldable pub cellOf : ℕ → ℕ → Cell
 cellOf kind a =
     cond (eqb kind 0) (when (eqb a 0) Nothing)
-    (cond (eqb kind 1) (when (spanRight 0 126 (spanOf a)) (Send (spanOf a)))
+    (cond (eqb kind 1) (when (spanRight 0 sendRoom (spanOf a)) (Send (spanOf a)))
     (cond (eqb kind 2) (when (leb a 60000) (Loop a))
     (cond (eqb kind 3) (when (eqb a 0) End)
     (cond (eqb kind 4) (when (timeRight a) (WaitTime a))
-    (cond (eqb kind 5) (when (spanRight 1 115 (spanOf a)) (WaitData (spanOf a)))
+    (cond (eqb kind 5) (when (spanRight 1 waitRoom (spanOf a)) (WaitData (spanOf a)))
     (cond (eqb kind 6) (when (leb a 60000) (WaitByte a))
     (cond (eqb kind 7) (when (fixedRight (clockOfNumber a)) (WaitClock (clockOfNumber a)))
     (cond (eqb kind 8) (when (ltb a 10) (WaitSignal (level (a / 2) (eqb (a % 2) 1))))
     (cond (eqb kind 9) (when (ltb a 2) (Rts (eqb a 1)))
-    (cond (eqb kind 10) (when (spanRight 0 122 (spanOf a)) (Log (spanOf a)))
+    (cond (eqb kind 10) (when (spanRight 0 logRoom (spanOf a)) (Log (spanOf a)))
     (cond (eqb kind 11) (when (eqb a 0) Fchange)
     (cond (eqb kind 12) (when (eqb a 0) Pause)
     (cond (eqb kind 13) (when (eqb a 0) Resume)

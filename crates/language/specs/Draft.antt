@@ -5,8 +5,10 @@ use mathlib.Core.Bool.{Bool, true, false, cond}
 use mathlib.Core.List.{List, [], _∷_, _++_}
 use lib.ListN.{length}
 use lib.Dec.{ltb, leb}
+use Rattle.figures.specs.Stretch.{limit}
 use Rattle.language.specs.declared.Fault.{Fault}
 use Rattle.language.specs.declared.Fault.the-variants.{TextTooLong, LineTooLong, TooManyLines, TooMuchData, TooManyOmits, TooManyLoops, EndWithoutLoop, LoopLeftOpen, TooManyProcesses, StretchTooLong}
+use Rattle.language.specs.Limits.{textLimit, lineLimit, linesLimit, dataLimit, omitLimit, loopLimit, processLimit}
 use Rattle.language.specs.Lines.{linesOf}
 use Rattle.language.specs.Script.{Statement, Meaning, comment, blank, process, setEx, says, setEncode, setStopbits, setOmit, setLfext, fault, byte, Settings, default, Item, does, next, Script, processes, Shape, opens, closes, stays, shape, dataOf}
 use Rattle.language.specs.Meaning.{meaning}
@@ -62,7 +64,7 @@ pub data Nested : Type 0 where
 
 unfoldable pub nest : ℕ → Shape → List ℕ → Nested
 nest row stays ls = now ls
-nest row opens ls = cond (ltb (length ls) 8) (now (row ∷ ls)) (broken TooManyLoops)
+nest row opens ls = cond (ltb (length ls) loopLimit) (now (row ∷ ls)) (broken TooManyLoops)
 nest row closes [] = broken EndWithoutLoop
 nest row closes (l ∷ ls) = now ls
 
@@ -73,7 +75,7 @@ takeNested row st s (broken n) = stop n row
 -- "data over 1,024" 5
 unfoldable pub takeStatement : ℕ → Draft → Statement → Taken
 takeStatement row st s =
-    cond (leb (st .used + length (dataOf s)) 1024) (takeNested row st s (nest row (shape s) (st .loops))) (stop TooMuchData row)
+    cond (leb (st .used + length (dataOf s)) dataLimit) (takeNested row st s (nest row (shape s) (st .loops))) (stop TooMuchData row)
 
 -- the state after a PROCESS line that begins the next process, and after one that begins the first
 unfoldable pub withNext : Draft → Draft
@@ -94,7 +96,7 @@ withFirst st =
 
 -- "the script's first such line, if no statement comes before it, begins the first process, and every other one the next"
 unfoldable pub beginning : ℕ → Draft → Taken
-beginning row st = cond (st .begun) (cond (ltb (st .count) 8) (going (withNext st)) (stop TooManyProcesses row)) (going (withFirst st))
+beginning row st = cond (st .begun) (cond (ltb (st .count) processLimit) (going (withNext st)) (stop TooManyProcesses row)) (going (withFirst st))
 
 -- "loop open at a PROCESS line: line of the innermost" 8, "ninth process" 9
 unfoldable pub takeProcess : ℕ → Draft → List ℕ → Taken
@@ -103,7 +105,7 @@ takeProcess row st (l ∷ ls) = stop LoopLeftOpen l
 
 unfoldable pub takeOmit : ℕ → Draft → Settings → List ℕ → Taken
 takeOmit row st s bs =
-    cond (leb (length (s .omit ++ bs)) 10)
+    cond (leb (length (s .omit ++ bs)) omitLimit)
     (going (withSettings st (record { encode = s .encode; twoStopbits = s .twoStopbits; omit = s .omit ++ bs; lfext = s .lfext })))
     (stop TooManyOmits row)
 
@@ -125,7 +127,7 @@ take row st (fault n) = stop n row
 
 -- "513th counted line" 2
 unfoldable pub takeCounted : ℕ → Draft → Meaning → Taken
-takeCounted row st m = cond (ltb (st .counted) 512) (take row (countLine st) m) (stop TooManyLines row)
+takeCounted row st m = cond (ltb (st .counted) linesLimit) (take row (countLine st) m) (stop TooManyLines row)
 
 unfoldable pub isComment : Meaning → Bool
 isComment comment = true
@@ -142,7 +144,7 @@ isComment (fault n) = false
 -- "line over 127" 1
 unfoldable pub takeLine : ℕ → Draft → List ℕ → Taken
 takeLine row st l =
-    cond (ltb 127 (length l)) (stop LineTooLong row)
+    cond (ltb lineLimit (length l)) (stop LineTooLong row)
     (cond (isComment (meaning l)) (going st) (takeCounted row st (meaning l)))
 
 -- a fault ends the fold
@@ -154,7 +156,7 @@ after (stop n row) go = refused n row
 module _ (stretch : List Statement → ℕ) where
   unfoldable pub stretched : List (List Statement) → ℕ → Script → Result
   stretched [] number s = accepted s
-  stretched (p ∷ ps) number s = cond (leb (stretch p) 4096) (stretched ps (number + 1) s) (refused StretchTooLong number)
+  stretched (p ∷ ps) number s = cond (leb (stretch p) limit) (stretched ps (number + 1) s) (refused StretchTooLong number)
 
   unfoldable pub finished : Script → List ℕ → Result
   finished s [] = stretched (processes (s .body)) 1 s
@@ -165,5 +167,5 @@ module _ (stretch : List Statement → ℕ) where
   fold (l ∷ ls) row st = after (takeLine row st l) (λ st₁. fold ls (row + 1) st₁)
 
   -- "text over 65,536 bytes (line 0)" 12
-  unfoldable pub compiled : List ℕ → Result
-  compiled s = cond (leb (length s) 65536) (fold (linesOf s) 1 start) (refused TextTooLong 0)
+  unfoldable pub resultOf : List ℕ → Result
+  resultOf s = cond (leb (length s) textLimit) (fold (linesOf s) 1 start) (refused TextTooLong 0)

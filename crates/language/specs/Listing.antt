@@ -8,6 +8,7 @@ use Rattle.reader.specs.Ascii.{ascii}
 use Rattle.reader.specs.Bytes.{all, same}
 use Rattle.reader.specs.Put.{decimal}
 use Rattle.reader.specs.Hex.{hexText}
+use Rattle.language.specs.Limits.{sendRoom, waitRoom}
 use Rattle.language.specs.Clock.{clockText}
 use Rattle.language.specs.Script.{Statement, send, loop, end, waitTime, waitData, waitByte, waitClock, waitSignal, rts, log, fchange, pause, resume, nop, Encode, unset, byte, Settings, Item, does, next, Script}
 
@@ -43,11 +44,11 @@ logText [] = ascii "#LOG"
 logText (b ∷ text) = ascii "#LOG " ++ b ∷ text
 
 unfoldable pub lineFor : Statement → List ℕ
-lineFor (send bs) = dataText 126 bs
+lineFor (send bs) = dataText sendRoom bs
 lineFor (loop n) = ascii "#LOOP " ++ countText n
 lineFor end = ascii "#END"
 lineFor (waitTime n) = ascii "#WAIT TIME " ++ timeText n
-lineFor (waitData bs) = ascii "#WAIT DATA " ++ dataText 115 bs
+lineFor (waitData bs) = ascii "#WAIT DATA " ++ dataText waitRoom bs
 lineFor (waitByte n) = ascii "#WAIT BYTE " ++ decimal n
 lineFor (waitClock vs) = ascii "#WAIT CLOCK " ++ clockText vs
 lineFor (waitSignal n on) = ascii "#WAIT " ++ (signalText n ++ onText on)

@@ -4,7 +4,9 @@ use mathlib.Core.Bool.{Bool, true, false, _&&_, _||_, not}
 use mathlib.Core.List.{List, [], _∷_}
 use lib.ListN.{length}
 use lib.Dec.{ltb, leb, eqb}
+use Rattle.figures.specs.Stretch.{limit}
 use Rattle.reader.specs.Bytes.{all, same}
+use Rattle.language.specs.Limits.{linesLimit, dataLimit, omitLimit, loopLimit, processLimit, sendRoom, waitRoom, logRoom}
 use Rattle.language.specs.Clock.{Range, within, secondOn, minuteOn, hourOn, dayOn}
 use Rattle.language.specs.Script.{Statement, send, loop, end, waitTime, waitData, waitByte, waitClock, waitSignal, rts, log, fchange, pause, resume, nop, Meaning, comment, blank, process, setEx, says, setEncode, setStopbits, setOmit, setLfext, fault, Encode, unset, byte, Settings, Item, does, next, Script, processes, Shape, opens, closes, stays, shape, dataOf}
 use Rattle.language.specs.Meaning.{signs, extension}
@@ -39,14 +41,14 @@ clockRight (h ∷ m ∷ s ∷ []) = inRanges hourOn (h ∷ m ∷ s ∷ [])
 clockRight (d ∷ h ∷ m ∷ s ∷ more) = inRanges dayOn (d ∷ h ∷ m ∷ s ∷ more)
 
 unfoldable pub logRight : List ℕ → Bool
-logRight text = leb (length text) 122 && (signs text false && all inLine text)
+logRight text = leb (length text) logRoom && (signs text false && all inLine text)
 
 unfoldable pub right : Statement → Bool
-right (send bs) = dataRight 126 bs
+right (send bs) = dataRight sendRoom bs
 right (loop n) = leb n 60000
 right end = true
 right (waitTime n) = timeRight n
-right (waitData bs) = not (same bs []) && dataRight 115 bs
+right (waitData bs) = not (same bs []) && dataRight waitRoom bs
 right (waitByte n) = leb n 60000
 right (waitClock vs) = clockRight vs
 right (waitSignal n on) = leb n 4
@@ -78,7 +80,7 @@ encodeRight (byte b) = isByte b
 
 -- "10 OMIT bytes"; "1 to 3 letters or digits, made capital"
 unfoldable pub settingsRight : Settings → Bool
-settingsRight s = encodeRight (s .encode) && (all isByte (s .omit) && (leb (length (s .omit)) 10 && extension (s .lfext)))
+settingsRight s = encodeRight (s .encode) && (all isByte (s .omit) && (leb (length (s .omit)) omitLimit && extension (s .lfext)))
 
 unfoldable pub allRight : List Item → Bool
 allRight [] = true
@@ -100,7 +102,7 @@ nextsIn (next ∷ is) = 1 + nextsIn is
 -- loops nest, at most 8 deep, and are closed in each process; `depth` are open
 unfoldable pub mayNest : Shape → ℕ → Bool
 mayNest stays depth = true
-mayNest opens depth = ltb depth 8
+mayNest opens depth = ltb depth loopLimit
 mayNest closes depth = ltb 0 depth
 
 unfoldable pub depthAfter : Shape → ℕ → ℕ
@@ -115,14 +117,14 @@ nests (next ∷ is) depth = eqb depth 0 && nests is 0
 
 unfoldable pub allBelow : (List Statement → ℕ) → List (List Statement) → Bool
 allBelow stretch [] = true
-allBelow stretch (p ∷ ps) = leb (stretch p) 4096 && allBelow stretch ps
+allBelow stretch (p ∷ ps) = leb (stretch p) limit && allBelow stretch ps
 
 -- the scripts that some text has
 unfoldable pub scriptRight : (List Statement → ℕ) → Script → Bool
 scriptRight stretch s =
     settingsRight (s .settings)
     && (allRight (s .body)
-    && (leb (length (listedLines s)) 512
-    && (leb (dataIn (s .body)) 1024
+    && (leb (length (listedLines s)) linesLimit
+    && (leb (dataIn (s .body)) dataLimit
     && (nests (s .body) 0
-    && (leb (nextsIn (s .body)) 7 && allBelow stretch (processes (s .body)))))))
+    && (ltb (nextsIn (s .body)) processLimit && allBelow stretch (processes (s .body)))))))

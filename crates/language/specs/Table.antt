@@ -10,6 +10,7 @@ use Rattle.language.specs.declared.Cell.{Cell}
 use Rattle.language.specs.declared.Cell.the-variants.{Nothing, Send, Loop, End, WaitTime, WaitData, WaitByte, WaitClock, WaitSignal, Rts, Log, Fchange, Pause, Resume, Nop, Unknown}
 use Rattle.language.specs.declared.Heads.{Heads}
 use Rattle.language.specs.declared.Table.{Table}
+use Rattle.language.specs.Limits.{linesLimit, dataLimit, omitLimit, processLimit}
 use Rattle.language.specs.Script.{Statement, send, loop, end, waitTime, waitData, waitByte, waitClock, waitSignal, rts, log, fchange, pause, resume, nop, Encode, unset, byte, Settings, Item, does, next, Script, dataOf}
 use Rattle.language.specs.Cell.{span, level, coded, decoded, clockFrom, fixedUnits}
 
@@ -66,21 +67,21 @@ unfoldable pub headsOf : Script → Heads
 headsOf s =
     record {
       processes = length (endsFrom 0 (s .body));
-      ends = padded 8 (endsFrom 0 (s .body));
+      ends = padded processLimit (endsFrom 0 (s .body));
       used = length (poolOf (s .body));
       encodes = encodes (s .settings .encode);
       encode = encodeByteOf (s .settings .encode);
       «two_stop_bits» = s .settings .twoStopbits;
       omits = length (s .settings .omit);
-      omit = padded 10 (s .settings .omit);
+      omit = padded omitLimit (s .settings .omit);
       extension = padded 3 (s .settings .lfext);
     }
 
 unfoldable pub laidOut : Script → Table
 laidOut s =
     record {
-      cells = padded 512 (wordsFrom 0 (s .body));
-      pool = padded 1024 (poolOf (s .body));
+      cells = padded linesLimit (wordsFrom 0 (s .body));
+      pool = padded dataLimit (poolOf (s .body));
       heads = headsOf s;
     }
 
@@ -145,18 +146,18 @@ scriptOf t =
 unfoldable pub zeros : Table
 zeros =
     record {
-      cells = replicate 512 0;
-      pool = replicate 1024 0;
+      cells = replicate linesLimit 0;
+      pool = replicate dataLimit 0;
       heads =
           record {
             processes = 0;
-            ends = replicate 8 0;
+            ends = replicate processLimit 0;
             used = 0;
             encodes = false;
             encode = 0;
             «two_stop_bits» = false;
             omits = 0;
-            omit = replicate 10 0;
+            omit = replicate omitLimit 0;
             extension = replicate 3 0;
           };
     }

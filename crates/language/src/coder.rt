@@ -7,8 +7,11 @@ ghost use lib.ListN.{getD};
 ghost use Rattle.language.specs.Clock.{range};
 ghost use Rattle.language.specs.Right.{timeRight};
 ghost use Rattle.language.specs.Cell.{level, bit, kindOf, argumentOf, spanNumber, clockNumber, coded, spanRight, unitRight, fixedRight, when, spanOf, clockOfNumber, decoded};
-
-use crate::{Cell, Cells, Clock, Level, Span};
+use crate::Cell;
+use crate::Cells;
+use crate::Clock;
+use crate::Level;
+use crate::Span;
 
 // A word holds its kind times this, and its argument below.
 const KIND: u32 = 67108864;

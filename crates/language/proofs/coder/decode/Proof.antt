@@ -115,21 +115,22 @@ returns-16 : tie.Need-returns-16
 unfolding decoded cellOf
 returns-16 c = let rest = c .match .rest in
     rw (
-    ne-eqb _ 0 (rest .0 .0 .0 .0 .0 .0 .0 .0 .0 .0 .0 .0 .0 .0 .1),
-    ne-eqb _ 1 (rest .0 .0 .0 .0 .0 .0 .0 .0 .0 .0 .0 .0 .0 .1),
-    ne-eqb _ 2 (rest .0 .0 .0 .0 .0 .0 .0 .0 .0 .0 .0 .0 .1),
-    ne-eqb _ 3 (rest .0 .0 .0 .0 .0 .0 .0 .0 .0 .0 .0 .1),
-    ne-eqb _ 4 (rest .0 .0 .0 .0 .0 .0 .0 .0 .0 .0 .1),
-    ne-eqb _ 5 (rest .0 .0 .0 .0 .0 .0 .0 .0 .0 .1),
-    ne-eqb _ 6 (rest .0 .0 .0 .0 .0 .0 .0 .0 .1),
-    ne-eqb _ 7 (rest .0 .0 .0 .0 .0 .0 .0 .1),
-    ne-eqb _ 8 (rest .0 .0 .0 .0 .0 .0 .1),
-    ne-eqb _ 9 (rest .0 .0 .0 .0 .0 .1),
-    ne-eqb _ 10 (rest .0 .0 .0 .0 .1),
-    ne-eqb _ 11 (rest .0 .0 .0 .1),
-    ne-eqb _ 12 (rest .0 .0 .1),
-    ne-eqb _ 13 (rest .0 .1),
-    ne-eqb _ 14 (rest .1))
+      ne-eqb _ 0 (rest .0 .0 .0 .0 .0 .0 .0 .0 .0 .0 .0 .0 .0 .0 .1),
+      ne-eqb _ 1 (rest .0 .0 .0 .0 .0 .0 .0 .0 .0 .0 .0 .0 .0 .1),
+      ne-eqb _ 2 (rest .0 .0 .0 .0 .0 .0 .0 .0 .0 .0 .0 .0 .1),
+      ne-eqb _ 3 (rest .0 .0 .0 .0 .0 .0 .0 .0 .0 .0 .0 .1),
+      ne-eqb _ 4 (rest .0 .0 .0 .0 .0 .0 .0 .0 .0 .0 .1),
+      ne-eqb _ 5 (rest .0 .0 .0 .0 .0 .0 .0 .0 .0 .1),
+      ne-eqb _ 6 (rest .0 .0 .0 .0 .0 .0 .0 .0 .1),
+      ne-eqb _ 7 (rest .0 .0 .0 .0 .0 .0 .0 .1),
+      ne-eqb _ 8 (rest .0 .0 .0 .0 .0 .0 .1),
+      ne-eqb _ 9 (rest .0 .0 .0 .0 .0 .1),
+      ne-eqb _ 10 (rest .0 .0 .0 .0 .1),
+      ne-eqb _ 11 (rest .0 .0 .0 .1),
+      ne-eqb _ 12 (rest .0 .0 .1),
+      ne-eqb _ 13 (rest .0 .1),
+      ne-eqb _ 14 (rest .1),
+    )
 
 pub decode-spec : {M : Type 1} → statement M
 decode-spec =
