@@ -195,6 +195,9 @@ flag-number zero h = refl
 flag-number (suc zero) h = refl
 flag-number (suc (suc a)) h = absurd (omega arith)
 
+signal-number : (a : ℕ) → a / 2 * 2 + bit (eqb (a % 2) 1) ≡ a
+signal-number a = let e : bit (eqb (a % 2) 1) ≡ a % 2 = flag-number (a % 2) (omega arith) in omega arith
+
 module _ (k a : ℕ) where
   -- the case of a kind, `rest` being the cases behind it
   case : (n : ℕ) (t : Bool) (c rest : Cell) → (t ≡ true → (cellRight c ≡ true) × (kindOf c ≡ n) × (argumentOf c ≡ a))
@@ -216,7 +219,7 @@ module _ (k a : ℕ) where
       (case 6 _ (WaitByte a) _ (λ h. (h, refl, refl))
       (case 7 _ (WaitClock (clockOfNumber a)) _ (λ h. (h, refl, clock-number a))
       (case 8 _ (WaitSignal (level (a / 2) (eqb (a % 2) 1))) _
-      (λ h. (le-leb (a / 2) 4 (omega (arith, ltb-true a 10 h)), refl, omega (arith, flag-number (a % 2) (omega arith))))
+      (λ h. (let l : a < 10 = ltb-true a 10 h in le-leb (a / 2) 4 (omega arith), refl, signal-number a))
       (case 9 _ (Rts (eqb a 1)) _ (λ h. (refl, refl, flag-number a (ltb-true a 2 h)))
       (case 10 _ (Log (spanOf a)) _ (λ h. (h, refl, span-number a))
       (case 11 _ Fchange _ (λ h. (refl, refl, sym (eqb-true a 0 h)))

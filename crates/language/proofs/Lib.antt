@@ -1,3 +1,4 @@
 pub mod Coding
 pub mod Opened
 pub mod Cells
+pub mod Tables
