@@ -5,7 +5,7 @@ use Prim.Native.Nat.{ℕ, _+_, max, _≤_}
 use native.Mathlib.Omega.{arith}
 use native.Mathlib.Nat.{max-le, le-antisymm}
 use Rattle.figures.specs.declared.Figures.{Figures}
-use Rattle.figures.specs.Joining.{fig, join}
+use Rattle.figures.specs.Figures.{fig, join}
 
 -- figures are equal where their five parts are
 pub fig-path : {r r′ e e′ : Bool} {f f′ l l′ g g′ : ℕ} → r ≡ r′ → e ≡ e′ → f ≡ f′ → l ≡ l′ → g ≡ g′ → fig r e f l g ≡ fig r′ e′ f′ l′ g′

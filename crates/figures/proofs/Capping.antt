@@ -4,7 +4,7 @@ use mathlib.Core.Bool.{Bool, true, false, cond}
 use Prim.Native.Nat.{ℕ, _+_, max}
 use native.Mathlib.Omega.{arith}
 use Rattle.figures.specs.declared.Figures.{Figures}
-use Rattle.figures.specs.Joining.{fig, cap, capped, join, joined}
+use Rattle.figures.specs.Figures.{fig, cap, capped, join, joined}
 use Rattle.figures.proofs.Associative.{fig-path, join-assoc}
 
 pub cap-cap : (a : ℕ) → cap (cap a) ≡ cap a

@@ -6,7 +6,7 @@ use native.Mathlib.Omega.{arith}
 use borrow.Author.Tests.{ne-eqb}
 use Rattle.figures.specs.declared.Figures.{Figures}
 use Rattle.figures.specs.Stretch.{over}
-use Rattle.figures.specs.Joining.{fig, cap, capped, join, joined, empty, again, copies}
+use Rattle.figures.specs.Figures.{fig, cap, capped, join, joined, empty, again, copies}
 use Rattle.figures.proofs.Associative.{fig-path}
 use Rattle.figures.proofs.Capping.{joined-capped-left, joined-capped-right, cap-max}
 

@@ -7,7 +7,7 @@ use Rattle.figures.specs.declared.Figures.{Figures}
 use Rattle.figures.specs.Fragment.{Fragment, stop, other, rest, loop, glue}
 use Rattle.figures.specs.Written.{busy, repeated, written}
 use Rattle.figures.specs.Stretch.{over}
-use Rattle.figures.specs.Joining.{told, capped, join, joined, empty, one, never, copies, looped, figures}
+use Rattle.figures.specs.Figures.{told, capped, join, joined, empty, one, never, copies, looped, figures}
 use Rattle.figures.proofs.Capping.{joined-capped-left, joined-assoc}
 use Rattle.figures.proofs.Telling.{told-right}
 use Rattle.figures.proofs.Writing.{told-joined, told-looped, figures-written}

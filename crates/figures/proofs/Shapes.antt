@@ -8,7 +8,7 @@ use native.Mathlib.Omega.{arith}
 use lib.Dec.{eqb}
 use Rattle.figures.specs.declared.Figures.{Figures}
 use Rattle.figures.specs.Stretch.{over}
-use Rattle.figures.specs.Joining.{fig, cap, capped, join, joined, one, never, empty, lastOf, again, copies, looped}
+use Rattle.figures.specs.Figures.{fig, cap, capped, join, joined, one, never, empty, lastOf, again, copies, looped}
 use Rattle.figures.proofs.Associative.{fig-path}
 use Rattle.figures.proofs.Capping.{cap-max}
 use Rattle.figures.proofs.Copying.{many-product}

@@ -6,7 +6,7 @@ use native.Mathlib.Nat.{le-refl}
 use Rattle.figures.specs.Fragment.{Fragment, stop, other, rest, loop}
 use Rattle.figures.specs.Written.{Done, busy, sure, cut, times, repeated, written}
 use Rattle.figures.specs.Stretch.{over}
-use Rattle.figures.specs.Joining.{told, capped, joined, one, pause, never, copies, looped, figures}
+use Rattle.figures.specs.Figures.{told, capped, joined, one, pause, never, copies, looped, figures}
 use Rattle.figures.proofs.Capping.{capped-capped, joined-capped}
 use Rattle.figures.proofs.Copying.{again-power, copies-capped, copies-many}
 use Rattle.figures.proofs.Telling.{told-append, told-times, computing}

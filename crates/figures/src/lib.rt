@@ -2,7 +2,7 @@
 mod runs;
 
 ghost use mathlib.Core.Path.{_≡_};
-ghost use Rattle.figures.specs.Joining.{capped, joined, one, pause, empty, never, copies, looped};
+ghost use Rattle.figures.specs.Figures.{capped, joined, one, pause, empty, never, copies, looped};
 use runs::choose;
 use runs::either;
 use runs::held;

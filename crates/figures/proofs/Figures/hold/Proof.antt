@@ -1,6 +1,6 @@
 -- `Figures::hold` meets its contract, field by field. Assumes nothing.
 use mathlib.Core.Path.{refl}
-use Rattle.figures.specs.Joining.{capped}
+use Rattle.figures.specs.Figures.{capped}
 use Rattle.figures.proofs.Associative.{fig-path}
 use Rattle.figures.proofs.Calls.{free}
 use Rattle.figures.proofs.Figures.hold.Statement.{statement}
