@@ -1,7 +1,7 @@
 -- A scan of marks from left to right, place by place: what the sum of figures keeps, and what each mark does to it. Assumes nothing.
 use mathlib.Core.Path.{_≡_, refl, ap, sym, _∙_}
 use mathlib.Core.Bool.{true}
-use mathlib.Core.List.{List, [], _∷_, map}
+use mathlib.Core.List.{List, [], map}
 use Prim.Native.Nat.{ℕ, _+_, _-_, _≤_, _<_}
 use native.Mathlib.Nat.{le-refl}
 use native.Mathlib.Numerals.{add-one}
@@ -11,7 +11,7 @@ use lib.Seq.{drop-cons}
 use Rattle.figures.specs.declared.Figures.{Figures}
 use Rattle.figures.specs.Fragment.{depth}
 use Rattle.figures.specs.Flat.{Mark, plain, sureRest, opens, closes, beyond, before, fragments, deepest, nests}
-use Rattle.figures.specs.Figures.{capped, join, joined, empty, one, pause, looped, figures}
+use Rattle.figures.specs.Figures.{capped, join, joined, empty, one, oneRest, looped, figures}
 use Rattle.figures.specs.Scan.{readAt, fragmentAt, Stands, Scannable, Scanned}
 use Rattle.figures.proofs.Capping.{joined-assoc}
 use Rattle.figures.proofs.Gluing.{empty-left, looped-right}
@@ -94,13 +94,13 @@ module _ (ms : List Mark) (at left : ℕ) where
           high = omega (arith, stands-inside ms i s);
         }
 
-    pub scan-rest : Stands ms i sureRest → Going ms at left (joined sum pause) (i + 1)
+    pub scan-rest : Stands ms i sureRest → Going ms at left (joined sum oneRest) (i + 1)
     unfolding figures before depth
     scan-rest s =
         let e = read-mark ms i s in
         record {
-          adds = joined-assoc sum pause (figures (fragmentAt ms (i + 1))) ∙ (rw e at (g .adds));
-          neutral = neutral-join sum pause (unfold capped join in refl);
+          adds = joined-assoc sum oneRest (figures (fragmentAt ms (i + 1))) ∙ (rw e at (g .adds));
+          neutral = neutral-join sum oneRest (unfold capped join in refl);
           behind = rw e at (g .behind);
           shallow = rw e at (g .shallow);
           low = omega (arith, g .low);

@@ -6,7 +6,7 @@ use native.Mathlib.Nat.{le-refl}
 use Rattle.figures.specs.Fragment.{Fragment, stop, other, rest, loop}
 use Rattle.figures.specs.Written.{Done, busy, sure, cut, times, repeated, written}
 use Rattle.figures.specs.Stretch.{over}
-use Rattle.figures.specs.Figures.{told, capped, joined, one, pause, never, copies, looped, figures}
+use Rattle.figures.specs.Figures.{told, capped, joined, one, oneRest, never, copies, looped, figures}
 use Rattle.figures.proofs.Capping.{capped-capped, joined-capped}
 use Rattle.figures.proofs.Copying.{again-power, copies-capped, copies-many}
 use Rattle.figures.proofs.Telling.{told-append, told-times, computing}
@@ -20,7 +20,7 @@ busy-before : (xs : List Done) → joined one (capped (told xs)) ≡ capped (tol
 unfolding capped computing
 busy-before xs = told-joined (busy ∷ []) xs
 
-sure-before : (xs : List Done) → joined pause (capped (told xs)) ≡ capped (told (sure ∷ xs))
+sure-before : (xs : List Done) → joined oneRest (capped (told xs)) ≡ capped (told (sure ∷ xs))
 unfolding capped computing
 sure-before xs = told-joined (sure ∷ []) xs
 

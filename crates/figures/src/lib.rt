@@ -2,7 +2,7 @@
 mod runs;
 
 ghost use mathlib.Core.Path.{_≡_};
-ghost use Rattle.figures.specs.Figures.{capped, joined, one, pause, empty, never, copies, looped};
+ghost use Rattle.figures.specs.Figures.{capped, joined, one, oneRest, empty, never, copies, looped};
 use runs::choose;
 use runs::either;
 use runs::held;
@@ -45,7 +45,7 @@ impl Figures {
 
     /// The figures of a sure rest.
     pub fn sure_rest() -> Figures
-        ensures { λ r. ⌜ r ≡ pause ⌝ }
+        ensures { λ r. ⌜ r ≡ oneRest ⌝ }
     {
         Figures {
             rests: true,
