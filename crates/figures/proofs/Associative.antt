@@ -1,12 +1,13 @@
--- The figures with `join` are a monoid: `join` is associative for all figures. Assumes nothing.
+-- `join` is associative, for all figures. Assumes nothing.
 use mathlib.Core.Path.{_≡_, refl}
 use mathlib.Core.Bool.{Bool, true, false, cond, _||_}
 use Prim.Native.Nat.{ℕ, _+_, max, _≤_}
 use native.Mathlib.Omega.{arith}
 use native.Mathlib.Nat.{max-le, le-antisymm}
 use Rattle.figures.specs.declared.Figures.{Figures}
-use Rattle.figures.specs.Joining.{fig, join}
+use Rattle.figures.specs.Figures.{fig, join}
 
+-- figures are equal where their five parts are
 pub fig-path : {r r′ e e′ : Bool} {f f′ l l′ g g′ : ℕ} → r ≡ r′ → e ≡ e′ → f ≡ f′ → l ≡ l′ → g ≡ g′ → fig r e f l g ≡ fig r′ e′ f′ l′ g′
 fig-path pr pe pf pl pg = λ i. fig (pr i) (pe i) (pf i) (pl i) (pg i)
 

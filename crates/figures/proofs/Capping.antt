@@ -1,10 +1,10 @@
--- Capping: the capped figures of a join follow from the capped figures of its parts. Assumes nothing.
+-- Capping early loses nothing: the capped figures of a join follow from the capped figures of its parts. Assumes nothing.
 use mathlib.Core.Path.{_≡_, refl, ap, sym, _∙_}
 use mathlib.Core.Bool.{Bool, true, false, cond}
 use Prim.Native.Nat.{ℕ, _+_, max}
 use native.Mathlib.Omega.{arith}
 use Rattle.figures.specs.declared.Figures.{Figures}
-use Rattle.figures.specs.Joining.{fig, cap, capped, join, joined}
+use Rattle.figures.specs.Figures.{fig, cap, capped, join, joined}
 use Rattle.figures.proofs.Associative.{fig-path, join-assoc}
 
 pub cap-cap : (a : ℕ) → cap (cap a) ≡ cap a
@@ -40,16 +40,16 @@ unfolding capped join
 parts false ar br be af al ag bf bl bg = fig-path refl refl (cap-cap af) (cap-cap al) (cap-cap ag)
 parts true ar br be af al ag bf bl bg = fig-path refl refl (cap-first ar af bf) (cap-last ar br al af bf bl) (cap-longest ar ag bg al af bf)
 
--- capping the parts first changes nothing
-pub cap-join : (a b : Figures) → joined (capped a) (capped b) ≡ joined a b
-cap-join a b = parts (a .ends) (a .rests) (b .rests) (b .ends) (a .first) (a .last) (a .longest) (b .first) (b .last) (b .longest)
+-- the parts may be capped first, both or either
+pub joined-capped : (a b : Figures) → joined (capped a) (capped b) ≡ joined a b
+joined-capped a b = parts (a .ends) (a .rests) (b .rests) (b .ends) (a .first) (a .last) (a .longest) (b .first) (b .last) (b .longest)
 
-pub cap-left : (a b : Figures) → joined (capped a) b ≡ joined a b
-cap-left a b = sym (cap-join (capped a) b) ∙ ap (λ (x : Figures). joined x (capped b)) (capped-capped a) ∙ cap-join a b
+pub joined-capped-left : (a b : Figures) → joined (capped a) b ≡ joined a b
+joined-capped-left a b = sym (joined-capped (capped a) b) ∙ ap (λ (x : Figures). joined x (capped b)) (capped-capped a) ∙ joined-capped a b
 
-pub cap-right : (a b : Figures) → joined a (capped b) ≡ joined a b
-cap-right a b = sym (cap-join a (capped b)) ∙ ap (λ (x : Figures). joined (capped a) x) (capped-capped b) ∙ cap-join a b
+pub joined-capped-right : (a b : Figures) → joined a (capped b) ≡ joined a b
+joined-capped-right a b = sym (joined-capped a (capped b)) ∙ ap (λ (x : Figures). joined (capped a) x) (capped-capped b) ∙ joined-capped a b
 
--- the capped join is associative, for all figures
+-- so the capped join is associative too
 pub joined-assoc : (a b c : Figures) → joined (joined a b) c ≡ joined a (joined b c)
-joined-assoc a b c = cap-left (join a b) c ∙ ap capped (join-assoc a b c) ∙ sym (cap-right a (join b c))
+joined-assoc a b c = joined-capped-left (join a b) c ∙ ap capped (join-assoc a b c) ∙ sym (joined-capped-right a (join b c))

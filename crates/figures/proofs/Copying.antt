@@ -6,9 +6,9 @@ use native.Mathlib.Omega.{arith}
 use borrow.Author.Tests.{ne-eqb}
 use Rattle.figures.specs.declared.Figures.{Figures}
 use Rattle.figures.specs.Stretch.{over}
-use Rattle.figures.specs.Joining.{fig, cap, capped, join, joined, empty, again, copies}
+use Rattle.figures.specs.Figures.{fig, cap, capped, join, joined, empty, again, copies}
 use Rattle.figures.proofs.Associative.{fig-path}
-use Rattle.figures.proofs.Capping.{cap-left, cap-right, cap-max}
+use Rattle.figures.proofs.Capping.{joined-capped-left, joined-capped-right, cap-max}
 
 -- n copies, joined one by one
 unfoldable pub power : ℕ → Figures → Figures
@@ -36,7 +36,7 @@ power-capped : (n : ℕ) (a : Figures) → capped (power n (capped a)) ≡ cappe
 unfolding power
 power-capped zero a = refl
 power-capped (suc n) a =
-    cap-left a (power n (capped a)) ∙ sym (cap-right a (power n (capped a))) ∙ ap (joined a) (power-capped n a) ∙ cap-right a (power n a)
+    joined-capped-left a (power n (capped a)) ∙ sym (joined-capped-right a (power n (capped a))) ∙ ap (joined a) (power-capped n a) ∙ joined-capped-right a (power n a)
 
 pub copies-capped : (n : ℕ) (a : Figures) → copies n (capped a) ≡ copies n a
 copies-capped n a = rw (again-power n (capped a), again-power n a) (power-capped n a)

@@ -1,17 +1,18 @@
 -- Fragments joined end to end: figures of the whole follow from those of its parts, and the empty fragment changes nothing. Assumes nothing.
 use mathlib.Core.Path.{_≡_, refl, ap, ap₂, sym, _∙_}
-use mathlib.Core.List.{List, [], _∷_, _++_, append-assoc}
+use mathlib.Core.List.{[], _∷_, _++_, append-assoc}
 use Prim.Native.Nat.{ℕ, _≤_}
 use native.Mathlib.Omega.{arith}
 use Rattle.figures.specs.declared.Figures.{Figures}
 use Rattle.figures.specs.Fragment.{Fragment, stop, other, rest, loop, glue}
 use Rattle.figures.specs.Written.{busy, repeated, written}
 use Rattle.figures.specs.Stretch.{over}
-use Rattle.figures.specs.Joining.{told, capped, join, joined, empty, one, never, copies, looped, figures}
-use Rattle.figures.proofs.Capping.{cap-left, joined-assoc}
+use Rattle.figures.specs.Figures.{told, capped, join, joined, empty, one, never, copies, looped, figures}
+use Rattle.figures.proofs.Capping.{joined-capped-left, joined-assoc}
 use Rattle.figures.proofs.Telling.{told-right}
 use Rattle.figures.proofs.Writing.{told-joined, told-looped, figures-written}
 
+-- fragments themselves
 pub glue-stop : (p : Fragment) → glue p stop ≡ p
 unfolding glue
 glue-stop stop = refl
@@ -41,7 +42,7 @@ figures-glue p q =
     ∙ sym (told-joined (written over p) (written over q))
     ∙ sym (ap₂ joined (figures-written over h p) (figures-written over h q))
 
--- the empty fragment, on either side
+-- the empty fragment changes nothing, on either side
 pub empty-left : (p : Fragment) → joined empty (figures p) ≡ figures p
 unfolding figures glue
 empty-left p = sym (figures-glue stop p)
@@ -64,4 +65,4 @@ pub looped-right : (n : ℕ) (b : Fragment) → joined (looped n (figures b)) em
 looped-right n b =
     let h : over ≤ over = omega arith in
     rw (figures-written over h b, told-looped over n (written over b) h)
-    (cap-left (told (repeated over n (written over b ++ (busy ∷ [])))) empty ∙ ap capped (told-right (repeated over n (written over b ++ (busy ∷ [])))))
+    (joined-capped-left (told (repeated over n (written over b ++ (busy ∷ [])))) empty ∙ ap capped (told-right (repeated over n (written over b ++ (busy ∷ [])))))

@@ -1,3 +1,4 @@
+pub mod Calls
 pub mod Associative
 pub mod Capping
 pub mod Copying

@@ -2,14 +2,14 @@
 use mathlib.Core.Path.{_≡_, refl, ap, sym, _∙_}
 use mathlib.Core.Bool.{Bool, true, false, cond}
 use mathlib.Core.List.{List, [], _∷_, _++_, append-nil, append-assoc}
-use Prim.Native.Nat.{ℕ, zero, suc, _+_, max, _≤_, _<_}
+use Prim.Native.Nat.{ℕ, suc, _+_, max, _≤_}
 use native.Mathlib.Nat.{add-zero}
 use native.Mathlib.Decide.{decLe, decLt}
 use native.Mathlib.Omega.{arith}
-use lib.Dec.{leb, ltb}
+use lib.Dec.{leb}
 use borrow.Author.Tests.{leb-true, lt-ltb, le-ltb, le-leb, lt-leb}
 use Rattle.figures.specs.Fragment.{Fragment, stop, other, rest, loop, depth}
-use Rattle.figures.specs.Flat.{Mark, plain, sureRest, opens, closes, fragment, marks, deepest, nests}
+use Rattle.figures.specs.Flat.{Mark, closes, fragment, marks, deepest, nests}
 use Rattle.figures.proofs.Reading.{marks-fragment}
 
 -- a loop fits where its body and what follows it do

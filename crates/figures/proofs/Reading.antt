@@ -6,7 +6,8 @@ use Prim.Native.Nat.{ℕ, zero, suc}
 use lib.Dec.{ltb}
 use Rattle.figures.specs.Fragment.{Fragment, stop, other, rest, loop, glue}
 use Rattle.figures.specs.Flat.{Mark, plain, sureRest, opens, closes, here, beyond, before, fragments, fragment, marks, deepest, nests}
-use Rattle.figures.proofs.Gluing.{glue-stop}
+use Rattle.figures.specs.Figures.{joined, figures}
+use Rattle.figures.proofs.Gluing.{glue-stop, figures-glue}
 
 -- what is read of a fragment's marks and then of others: the fragment, glued to the one that comes first
 pub record Back (p : Fragment) (ms : List Mark) : Type 0 where
@@ -83,3 +84,6 @@ marks-glue (loop n b p) q = rw (marks-glue p q, append-assoc (marks b))
 
 pub fragment-append : (ms ns : List Mark) → nests 0 ms ≡ true → fragment (ms ++ ns) ≡ glue (fragment ms) (fragment ns)
 fragment-append ms ns h = ap (λ l. fragment (l ++ ns)) (sym (marks-fragment ms h)) ∙ back (fragment ms) ns .first
+
+pub figures-append : (ms ns : List Mark) → nests 0 ms ≡ true → figures (fragment (ms ++ ns)) ≡ joined (figures (fragment ms)) (figures (fragment ns))
+figures-append ms ns h = ap figures (fragment-append ms ns h) ∙ figures-glue (fragment ms) (fragment ns)

@@ -1,17 +1,17 @@
 -- A scan of marks from left to right, place by place: what the sum of figures keeps, and what each mark does to it. Assumes nothing.
 use mathlib.Core.Path.{_≡_, refl, ap, sym, _∙_}
 use mathlib.Core.Bool.{true}
-use mathlib.Core.List.{List, [], _∷_}
+use mathlib.Core.List.{List, [], map}
 use Prim.Native.Nat.{ℕ, _+_, _-_, _≤_, _<_}
 use native.Mathlib.Nat.{le-refl}
 use native.Mathlib.Numerals.{add-one}
 use native.Mathlib.Omega.{arith}
-use lib.ListN.{length, getD, drop, length-drop, drop-of-length-le}
+use lib.ListN.{length, getD, drop, length-drop, drop-of-length-le, length-map, List·getD-map}
 use lib.Seq.{drop-cons}
 use Rattle.figures.specs.declared.Figures.{Figures}
 use Rattle.figures.specs.Fragment.{depth}
 use Rattle.figures.specs.Flat.{Mark, plain, sureRest, opens, closes, beyond, before, fragments, deepest, nests}
-use Rattle.figures.specs.Joining.{capped, join, joined, empty, one, pause, looped, figures}
+use Rattle.figures.specs.Figures.{capped, join, joined, empty, one, oneRest, looped, figures}
 use Rattle.figures.specs.Scan.{readAt, fragmentAt, Stands, Scannable, Scanned}
 use Rattle.figures.proofs.Capping.{joined-assoc}
 use Rattle.figures.proofs.Gluing.{empty-left, looped-right}
@@ -31,6 +31,10 @@ module _ (ms : List Mark) (i : ℕ) where
   pub read-mark : {m : Mark} → Stands ms i m → readAt ms i ≡ before m (readAt ms (i + 1))
   unfolding fragments
   read-mark s = ap fragments s
+
+-- the marks of a list, each element having one
+pub stands-map : {A : Type 0} (f : A → Mark) (xs : List A) (i : ℕ) (d : A) → i < length xs → Stands (map f xs) i (f (getD xs i d))
+stands-map f xs i d h = rw (← List·getD-map f xs i d) (stands (map f xs) i (f d) (omega (arith, length-map xs f)))
 
 -- What the sum of figures keeps: joined to the figures of what is left of the fragment, it is the figures of the whole.
 pub record Going (ms : List Mark) (at left : ℕ) (sum : Figures) (i : ℕ) : Type 0 where
@@ -90,13 +94,13 @@ module _ (ms : List Mark) (at left : ℕ) where
           high = omega (arith, stands-inside ms i s);
         }
 
-    pub scan-rest : Stands ms i sureRest → Going ms at left (joined sum pause) (i + 1)
+    pub scan-rest : Stands ms i sureRest → Going ms at left (joined sum oneRest) (i + 1)
     unfolding figures before depth
     scan-rest s =
         let e = read-mark ms i s in
         record {
-          adds = joined-assoc sum pause (figures (fragmentAt ms (i + 1))) ∙ (rw e at (g .adds));
-          neutral = neutral-join sum pause (unfold capped join in refl);
+          adds = joined-assoc sum oneRest (figures (fragmentAt ms (i + 1))) ∙ (rw e at (g .adds));
+          neutral = neutral-join sum oneRest (unfold capped join in refl);
           behind = rw e at (g .behind);
           shallow = rw e at (g .shallow);
           low = omega (arith, g .low);

@@ -1,14 +1,14 @@
 -- What the code's tests decide of a join, of copies and of the passes of a loop. Assumes nothing.
 use mathlib.Core.Path.{_≡_, refl, ap, sym, _∙_}
 use mathlib.Core.Bool.{Bool, true, false, cond, _||_}
-use Prim.Native.Nat.{ℕ, zero, suc, _+_, _*_, max, _≤_}
+use Prim.Native.Nat.{ℕ, zero, suc, _+_, _*_, max}
 use native.Mathlib.Nat.{mul-comm}
 use native.Mathlib.Decide.{decLe}
 use native.Mathlib.Omega.{arith}
 use lib.Dec.{eqb}
 use Rattle.figures.specs.declared.Figures.{Figures}
 use Rattle.figures.specs.Stretch.{over}
-use Rattle.figures.specs.Joining.{fig, cap, capped, join, joined, one, never, empty, lastOf, again, copies, looped}
+use Rattle.figures.specs.Figures.{fig, cap, capped, join, joined, one, never, empty, lastOf, again, copies, looped}
 use Rattle.figures.proofs.Associative.{fig-path}
 use Rattle.figures.proofs.Capping.{cap-max}
 use Rattle.figures.proofs.Copying.{many-product}

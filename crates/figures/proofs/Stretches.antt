@@ -7,7 +7,7 @@ use Rattle.figures.specs.declared.Figures.{Figures}
 use Rattle.figures.specs.Fragment.{Fragment}
 use Rattle.figures.specs.Written.{written, longest}
 use Rattle.figures.specs.Stretch.{limit, over, Stretch, Over}
-use Rattle.figures.specs.Joining.{cap, capped, stretchOf}
+use Rattle.figures.specs.Figures.{cap, capped, stretchOf}
 use Rattle.figures.proofs.Writing.{figures-written}
 use Rattle.figures.proofs.Growing.{longest-grows}
 

@@ -6,7 +6,7 @@ use Prim.Native.Nat.{ℕ, zero, suc, _+_, max}
 use native.Mathlib.Omega.{arith}
 use Rattle.figures.specs.declared.Figures.{Figures}
 use Rattle.figures.specs.Written.{Done, busy, sure, cut, times, run, firstRun, lastRun, rested, ended}
-use Rattle.figures.specs.Joining.{fig, told, join, one, pause, empty, never}
+use Rattle.figures.specs.Figures.{told, join, empty}
 use Rattle.figures.proofs.Associative.{fig-path, join-assoc}
 use Rattle.figures.proofs.Copying.{power}
 

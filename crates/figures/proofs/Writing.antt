@@ -2,24 +2,25 @@
 use mathlib.Core.Path.{_≡_, refl, ap, sym, _∙_}
 use mathlib.Core.List.{List, [], _∷_, _++_}
 use Prim.Native.Nat.{ℕ, zero, suc, _≤_}
+use native.Mathlib.Nat.{le-refl}
 use Rattle.figures.specs.Fragment.{Fragment, stop, other, rest, loop}
 use Rattle.figures.specs.Written.{Done, busy, sure, cut, times, repeated, written}
 use Rattle.figures.specs.Stretch.{over}
-use Rattle.figures.specs.Joining.{told, capped, joined, one, pause, never, copies, looped, figures}
-use Rattle.figures.proofs.Capping.{cap-join}
+use Rattle.figures.specs.Figures.{told, capped, joined, one, oneRest, never, copies, looped, figures}
+use Rattle.figures.proofs.Capping.{capped-capped, joined-capped}
 use Rattle.figures.proofs.Copying.{again-power, copies-capped, copies-many}
 use Rattle.figures.proofs.Telling.{told-append, told-times, computing}
 
 -- forms end to end
 pub told-joined : (xs ys : List Done) → joined (capped (told xs)) (capped (told ys)) ≡ capped (told (xs ++ ys))
-told-joined xs ys = cap-join (told xs) (told ys) ∙ ap capped (sym (told-append xs ys))
+told-joined xs ys = joined-capped (told xs) (told ys) ∙ ap capped (sym (told-append xs ys))
 
 -- a single statement before a form
 busy-before : (xs : List Done) → joined one (capped (told xs)) ≡ capped (told (busy ∷ xs))
 unfolding capped computing
 busy-before xs = told-joined (busy ∷ []) xs
 
-sure-before : (xs : List Done) → joined pause (capped (told xs)) ≡ capped (told (sure ∷ xs))
+sure-before : (xs : List Done) → joined oneRest (capped (told xs)) ≡ capped (told (sure ∷ xs))
 unfolding capped computing
 sure-before xs = told-joined (sure ∷ []) xs
 
@@ -51,3 +52,7 @@ figures-written m h (rest p) = rw (figures-written m h p) (sure-before (written 
 figures-written m h (loop n b p) =
     let ps = repeated m n (written m b ++ (busy ∷ [])) in
     rw (figures-written m h b, figures-written m h p, told-looped m n (written m b) h, told-joined ps (written m p)) (busy-before (ps ++ written m p))
+
+-- so they are capped already
+pub figures-capped : (p : Fragment) → capped (figures p) ≡ figures p
+figures-capped p = rw (figures-written over (le-refl over) p) (capped-capped (told (written over p)))

@@ -6,10 +6,11 @@ use lib.Dec.{leb}
 use Rattle.figures.specs.Flat.{Mark, plain, sureRest, opens, closes, fragment}
 use Rattle.figures.specs.Stretch.{limit, over, Stretch, Over}
 
--- "Sure rests are .. WAIT DATA, WAIT CLOCK"
+-- "Sure rests are .. WAIT DATA"
 abbrev waitData : Mark
 waitData = sureRest
 
+-- "WAIT CLOCK"
 abbrev waitClock : Mark
 waitClock = sureRest
 
@@ -17,13 +18,15 @@ waitClock = sureRest
 abbrev waitCtsOn : Mark
 waitCtsOn = plain
 
--- "other statements"
+-- a data line, one of the "other statements"
 abbrev send : Mark
 send = plain
 
+-- NOP, another
 abbrev nop : Mark
 nop = plain
 
+-- LOG, another
 abbrev log : Mark
 log = plain
 
@@ -64,6 +67,7 @@ cases =
 abbrev pub Holds : Bool → Case → Type 0
 Holds t c = cond t (Stretch (fragment (c .process)) (c .stretch)) (Over (fragment (c .process)) limit)
 
+-- every case of a table holds
 abbrev pub AllHold : List Case → Type 0
 AllHold [] = Unit {0}
 AllHold (c ∷ cs) = Holds (leb (c .stretch) limit) c × AllHold cs

@@ -12,22 +12,24 @@ pub data Mark : Type 0 where
   opens : ℕ → Mark
   closes : Mark
 
--- The marks are read from their end as a stack: first the fragment that starts here, then the one behind its END, and so on.
+-- Marks are read as a stack of fragments: the one that starts here, the one behind its END, and so on. The first of them:
 abbrev pub here : List Fragment → Fragment
 here [] = stop
 here (p ∷ ps) = p
 
+-- the stack behind the END of the first
 abbrev pub beyond : List Fragment → List Fragment
 beyond [] = []
 beyond (p ∷ ps) = ps
 
--- a mark before what is read; "#END closes the innermost loop"
+-- a mark put before the stack; "#END closes the innermost loop"
 unfoldable pub before : Mark → List Fragment → List Fragment
 before plain ps = other (here ps) ∷ beyond ps
 before sureRest ps = rest (here ps) ∷ beyond ps
 before (opens n) ps = loop n (here ps) (here (beyond ps)) ∷ beyond (beyond ps)
 before closes ps = stop ∷ ps
 
+-- the stack of a list of marks, read from its end
 unfoldable pub fragments : List Mark → List Fragment
 fragments [] = []
 fragments (m ∷ ms) = before m (fragments ms)

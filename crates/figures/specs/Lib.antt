@@ -2,6 +2,6 @@ pub mod Fragment
 pub mod Flat
 pub mod Written
 pub mod Stretch
-pub mod Joining
+pub mod Figures
 pub mod Scan
 pub mod Cases

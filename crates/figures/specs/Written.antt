@@ -34,6 +34,7 @@ run k (busy ∷ xs) = run (suc k) xs
 run k (sure ∷ xs) = max k (run 0 xs)
 run k (cut ∷ xs) = k
 
+-- the longest run of all
 abbrev pub longest : List Done → ℕ
 longest xs = run 0 xs
 

@@ -2,7 +2,7 @@
 mod runs;
 
 ghost use mathlib.Core.Path.{_≡_};
-ghost use Rattle.figures.specs.Joining.{capped, joined, one, pause, empty, never, copies, looped};
+ghost use Rattle.figures.specs.Figures.{capped, joined, one, oneRest, empty, never, copies, looped};
 use runs::choose;
 use runs::either;
 use runs::held;
@@ -17,10 +17,15 @@ const OVER: u32 = LIMIT + 1;
 
 /// Whether a fragment rests, whether it ever ends, and its first, last and longest runs.
 pub struct Figures {
+    /// Whether a sure rest is reached.
     pub rests: bool,
+    /// Whether the end is reached.
     pub ends: bool,
+    /// The run before the first sure rest.
     pub first: u32,
+    /// The run after the last sure rest.
     pub last: u32,
+    /// The longest run with no sure rest between.
     pub longest: u32,
 }
 
@@ -40,7 +45,7 @@ impl Figures {
 
     /// The figures of a sure rest.
     pub fn sure_rest() -> Figures
-        ensures { λ r. ⌜ r ≡ pause ⌝ }
+        ensures { λ r. ⌜ r ≡ oneRest ⌝ }
     {
         Figures {
             rests: true,
@@ -97,15 +102,13 @@ impl Figures {
         let ends = self.ends;
         if ends {
             let last = choose(self.rests, self.last, self.first);
+            let seam = meet(last, next.first);
             Figures {
                 rests: either(self.rests, next.rests),
                 ends: next.ends,
                 first: choose(self.rests, held(self.first), meet(self.first, next.first)),
-                last: choose(next.rests, held(next.last), meet(last, next.first)),
-                longest: larger(
-                    larger(held(self.longest), held(next.longest)),
-                    meet(last, next.first),
-                ),
+                last: choose(next.rests, held(next.last), seam),
+                longest: larger(larger(held(self.longest), held(next.longest)), seam),
             }
         } else {
             self.hold()
@@ -123,15 +126,13 @@ impl Figures {
         if ends {
             let rests = self.rests;
             if rests {
+                let seam = meet(self.last, choose(n == 1, 0, self.first));
                 Figures {
                     rests,
                     ends,
                     first: held(self.first),
                     last: held(self.last),
-                    longest: larger(
-                        held(self.longest),
-                        meet(self.last, choose(n == 1, 0, self.first)),
-                    ),
+                    longest: larger(held(self.longest), seam),
                 }
             } else {
                 let all = product(n, self.first);

@@ -2,7 +2,7 @@
 ghost use mathlib.Core.Path.{_≡_};
 ghost use mathlib.Core.Bool.{cond, _||_};
 ghost use Prim.Native.Nat.{_+_, _*_, max};
-ghost use Rattle.figures.specs.Joining.{cap};
+ghost use Rattle.figures.specs.Figures.{cap};
 use crate::OVER;
 
 // The run x, capped.

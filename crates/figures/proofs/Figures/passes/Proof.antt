@@ -1,26 +1,8 @@
 -- `Figures::passes` meets its contract, by the test on n. Assumes nothing.
-use borrow.Author.Needs.{needs}
 use Rattle.figures.proofs.Shapes.{looped-ever, looped-some}
+use Rattle.figures.proofs.Calls.{free}
 use Rattle.figures.proofs.Figures.passes.Statement.{statement}
 use Rattle.figures.proofs.Figures.passes.Tie as tie
-
-plain-requires : tie.Need-plain-requires
-plain-requires c κs = search needs
-
-join-requires : tie.Need-join-requires
-join-requires c κs = search needs
-
-repeat-requires : tie.Need-repeat-requires
-repeat-requires c κs = search needs
-
-endless-requires : tie.Need-endless-requires
-endless-requires c κs = search needs
-
-join-requires-2 : tie.Need-join-requires-2
-join-requires-2 c κs = search needs
-
-repeat-requires-2 : tie.Need-repeat-requires-2
-repeat-requires-2 c κs = search needs
 
 returns : tie.Need-returns
 returns c =
@@ -35,14 +17,4 @@ returns-2 c =
     cc (looped-some (a .n) (a .self) (d .if1 .left))
 
 pub passes-spec : {M : Type 1} → statement M
-passes-spec =
-    tie.close
-    (tie.spec
-    plain-requires
-    join-requires
-    repeat-requires
-    endless-requires
-    join-requires-2
-    repeat-requires-2
-    returns
-    returns-2)
+passes-spec = tie.close (tie.spec free free free free free free returns returns-2)

@@ -1,27 +1,18 @@
 -- `product` meets its contract: the factors may be capped first, and the product of two capped numbers fits. Assumes nothing.
-use borrow.Author.Needs.{needs}
 use Prim.Native.Nat.{_*_, _≤_}
 use native.Mathlib.Nat.{mul-le-mul}
 use native.Mathlib.Omega.{arith}
 use Rattle.figures.specs.Stretch.{over}
 use Rattle.figures.proofs.Shapes.{cap-product}
+use Rattle.figures.proofs.Calls.{free}
 use Rattle.figures.proofs.runs.product.Statement.{statement}
 use Rattle.figures.proofs.runs.product.Tie as tie
 
-held-requires : tie.Need-held-requires
-held-requires c κs = search needs
-
-held-requires-2 : tie.Need-held-requires-2
-held-requires-2 c κs = search needs
-
 mul-held : tie.Need-mul-held
 mul-held c = let h : c .before .held .result * c .held2 .result ≤ over * over = mul-le-mul {n₂ = over} {m₂ = over} (omega arith) (omega arith) in omega arith
-
-held-requires-3 : tie.Need-held-requires-3
-held-requires-3 c κs = search needs
 
 returns : tie.Need-returns
 returns c = cc (cap-product (c .before .before .before .args .n) (c .before .before .before .args .x))
 
 pub product-spec : {M : Type 1} → statement M
-product-spec = tie.close (tie.spec held-requires held-requires-2 mul-held held-requires-3 returns)
+product-spec = tie.close (tie.spec free free mul-held free returns)

@@ -8,6 +8,7 @@ use Rattle.figures.specs.Fragment.{Fragment, stop, other, rest, loop}
 use Rattle.figures.specs.Written.{Done, longest, firstRun, lastRun, rested, ended}
 use Rattle.figures.specs.Stretch.{over}
 
+-- the record of a fragment's figures, part by part
 abbrev pub fig : Bool → Bool → ℕ → ℕ → ℕ → Figures
 fig r e f l g = record { rests = r; ends = e; first = f; last = l; longest = g }
 
@@ -20,8 +21,8 @@ abbrev pub one : Figures
 one = fig false true 1 1 1
 
 -- a sure rest
-abbrev pub pause : Figures
-pause = fig true true 0 0 0
+abbrev pub oneRest : Figures
+oneRest = fig true true 0 0 0
 
 -- "the empty fragment"
 abbrev pub empty : Figures
@@ -50,9 +51,11 @@ join a b = cond (a .ends) (meld a b) a
 abbrev pub cap : ℕ → ℕ
 cap n = min n over
 
+-- the figures with each of their runs capped
 unfoldable pub capped : Figures → Figures
 capped a = fig (a .rests) (a .ends) (cap (a .first)) (cap (a .last)) (cap (a .longest))
 
+-- the capped figures of b after a
 abbrev pub joined : Figures → Figures → Figures
 joined a b = capped (join a b)
 
@@ -66,6 +69,7 @@ again (suc n) a = cond (a .ends)
     (max (a .longest) (cond (a .rests) (a .last + cond (eqb (suc n) 1) 0 (a .first)) (suc n * a .first))))
     a
 
+-- the capped figures of n copies of a
 abbrev pub copies : ℕ → Figures → Figures
 copies n a = capped (again n a)
 
@@ -78,7 +82,7 @@ looped (suc n) b = copies (suc n) (joined b one)
 unfoldable pub figures : Fragment → Figures
 figures stop = empty
 figures (other p) = joined one (figures p)
-figures (rest p) = joined pause (figures p)
+figures (rest p) = joined oneRest (figures p)
 figures (loop n b p) = joined one (joined (looped n (figures b)) (figures p))
 
 -- the stretch, or 4,097 where it is over 4,096
