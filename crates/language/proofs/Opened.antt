@@ -9,7 +9,7 @@ use Rattle.reader.specs.Hex.{stepOf, hexGo, hexAt, hexSecond, hexByteOf, hexByt
 use Rattle.reader.specs.Put.{fixed, widthGo, widthOf, decimal, twoDigits}
 use Rattle.figures.specs.Flat as flat
 use Rattle.figures.specs.Flat.{fragments}
-use Rattle.figures.specs.Joining.{join, capped, again, looped, figures}
+use Rattle.figures.specs.Figures.{join, capped, again, looped, figures}
 use Rattle.language.specs.Lines.{dropCr, inFront, rawLines, eachLine, linesOf}
 use Rattle.language.specs.Clock.{within, valueBefore, fill, from, clockOf, inTwos, clockLetter, clockText}
 use Rattle.language.specs.Script.{Statement, default, inFirst, processes, shape, dataOf}

@@ -4,7 +4,7 @@ use mathlib.Core.Bool.{Bool, cond}
 use mathlib.Core.List.{List, [], _∷_, map}
 use lib.Dec.{ltb}
 use Rattle.figures.specs.Flat.{Mark, plain, sureRest, opens, closes, fragment}
-use Rattle.figures.specs.Joining as joining
+use Rattle.figures.specs.Figures as figures
 use Rattle.language.specs.Script.{Statement, send, loop, end, waitTime, waitData, waitByte, waitClock, waitSignal, rts, log, fchange, pause, resume, nop, Item, processes}
 
 -- "Sure rests are WAIT TIME and WAIT BYTE above zero, WAIT DATA, WAIT CLOCK"; "Signal waits are not sure rests"
@@ -26,7 +26,7 @@ markOf nop = plain
 
 -- the stretch of a process, 4,097 standing for all over 4,096
 unfoldable pub stretchOf : List Statement → ℕ
-stretchOf p = joining.stretchOf (fragment (map markOf p))
+stretchOf p = figures.stretchOf (fragment (map markOf p))
 
 -- "The compiler reports the largest stretch of any process"
 unfoldable pub largestOf : List (List Statement) → ℕ
