@@ -1,12 +1,13 @@
 -- One or two digits from a place on: the definitions there, with the digit that the code has read. Assumes nothing.
 use Prim.Native.Nat.{ℕ, _+_, _*_, _≤_, _<_}
-use mathlib.Core.Path.{_≡_, sym}
+use mathlib.Core.Path.{_≡_, _∙_}
 use mathlib.Core.Bool.{cond, _&&_}
 use mathlib.Core.List.{List}
 use native.Mathlib.Numerals.{add-one}
 use lib.Dec.{ltb, leb}
 use lib.ListN.{length, drop, getD, drop-of-length-le}
 use lib.Seq.{drop-cons}
+use borrow.Author.Tests.{lt-ltb, le-leb}
 use Rattle.reader.specs.Bytes.{digitOf}
 use Rattle.reader.specs.Number.{secondOf, pairOf, pairAt}
 use Rattle.reader.specs.Hex.{hexSecond, hexByteOf, hexByteAt}
@@ -40,6 +41,9 @@ module _ (s : List ℕ) (at : ℕ) {e : ℕ} (inside : at < length s) (is : e �
   unfolding pairAt pairOf
   pair-on low high = rw (add-one at, drop-cons s at 0, is) (simp add-one)
 
+  pub pair-first : {low high : ℕ} → e < 10 → low ≤ e * 10 + 9 → e * 10 ≤ high → pairAt low high s at ≡ secondOf low high e (drop (at + 1) s) (at + 1)
+  pair-first {low} {high} h l u = pair-on low high ∙ simp (lt-ltb _ _ h, le-leb _ _ l, le-leb _ _ u)
+
   pub hex-second-on : (h : ℕ) → hexSecond h (drop at s) at ≡ cond (ltb e 16) (Value (h * 16 + e) (at + 1)) (Value h at)
   unfolding hexSecond
   hex-second-on h = rw (drop-cons s at 0, is)
@@ -47,3 +51,6 @@ module _ (s : List ℕ) (at : ℕ) {e : ℕ} (inside : at < length s) (is : e �
   pub hex-byte-on : hexByteAt s at ≡ cond (ltb e 16) (hexSecond e (drop (at + 1) s) (at + 1)) (Bad at)
   unfolding hexByteAt hexByteOf
   hex-byte-on = rw (add-one at, drop-cons s at 0, is) (simp add-one)
+
+  pub hex-byte-first : e < 16 → hexByteAt s at ≡ hexSecond e (drop (at + 1) s) (at + 1)
+  hex-byte-first h = hex-byte-on ∙ simp (lt-ltb _ _ h)

@@ -1,7 +1,7 @@
 -- `hex_byte` meets its contract: each `return` is a case of `hexByteOf`. Assumes nothing.
 use mathlib.Core.Path.{sym, _∙_}
 use borrow.Author.Tests.{lt-ltb, le-ltb}
-use Rattle.reader.proofs.Pairs.{hex-byte-none, hex-byte-on, hex-second-none, hex-second-on}
+use Rattle.reader.proofs.Pairs.{hex-byte-none, hex-byte-on, hex-byte-first, hex-second-none, hex-second-on}
 use borrow.Author.Needs.{needs}
 use Rattle.reader.proofs.hex.hex_byte.Statement.{statement}
 use Rattle.reader.proofs.hex.hex_byte.Tie as tie
@@ -29,9 +29,7 @@ cast-t10 c = search needs
 returns-3 : tie.Need-returns-3
 returns-3 c =
     let d = c .before .before in
-    sym
-    (hex-byte-on _ _ (d .before .before .if1 .left) (d .digit .ensures)
-    ∙ simp (lt-ltb _ _ (c .before .if2 .left)) (hex-second-none _ _ (c .if3 .taken) _))
+    sym (hex-byte-first _ _ (d .before .before .if1 .left) (d .digit .ensures) (c .before .if2 .left) ∙ hex-second-none _ _ (c .if3 .taken) _)
 
 shared-slice-read-digit-2 : tie.Need-shared-slice-read-digit-2
 shared-slice-read-digit-2 c = search needs
@@ -47,9 +45,9 @@ returns-4 c =
     let e = c .before in
     let d = e .before .before .before .before in
     sym
-    (hex-byte-on _ _ (d .before .before .if1 .left) (d .digit .ensures)
-    ∙ simp (lt-ltb _ _ (e .before .before .before .if2 .left))
-    (hex-second-on _ _ (e .before .before .if3 .left) (e .digit2 .ensures) _ ∙ simp (le-ltb _ _ (c .if4 .taken))))
+    (hex-byte-first _ _ (d .before .before .if1 .left) (d .digit .ensures) (e .before .before .before .if2 .left)
+    ∙ hex-second-on _ _ (e .before .before .if3 .left) (e .digit2 .ensures) _
+    ∙ simp (le-ltb _ _ (c .if4 .taken)))
 
 mul-t9 : tie.Need-mul-t9
 mul-t9 c = search needs
@@ -68,9 +66,9 @@ returns-5 c =
     let e = c .before in
     let d = e .before .before .before .before in
     sym
-    (hex-byte-on _ _ (d .before .before .if1 .left) (d .digit .ensures)
-    ∙ simp (lt-ltb _ _ (e .before .before .before .if2 .left))
-    (hex-second-on _ _ (e .before .before .if3 .left) (e .digit2 .ensures) _ ∙ simp (lt-ltb _ _ (c .if4 .left))))
+    (hex-byte-first _ _ (d .before .before .if1 .left) (d .digit .ensures) (e .before .before .before .if2 .left)
+    ∙ hex-second-on _ _ (e .before .before .if3 .left) (e .digit2 .ensures) _
+    ∙ simp (lt-ltb _ _ (c .if4 .left)))
 
 pub hex-byte-spec : {M : Type 1} → statement M
 hex-byte-spec =

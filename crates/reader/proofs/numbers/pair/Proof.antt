@@ -1,7 +1,7 @@
 -- `pair` meets its contract: each `return` is a case of `pairOf`. Assumes nothing.
 use mathlib.Core.Path.{sym, _∙_}
 use borrow.Author.Tests.{lt-ltb, le-ltb, le-leb, lt-leb}
-use Rattle.reader.proofs.Pairs.{pair-none, pair-on}
+use Rattle.reader.proofs.Pairs.{pair-none, pair-on, pair-first}
 use borrow.Author.Needs.{needs}
 use Rattle.reader.proofs.numbers.pair.Statement.{statement}
 use Rattle.reader.proofs.numbers.pair.Tie as tie
@@ -49,8 +49,7 @@ returns-5 : tie.Need-returns-5
 returns-5 c =
     let e = c .before in
     let d = e .before .before .before in
-    c .second .ensures
-    ∙ sym (pair-on _ _ (d .before .before .if1 .left) (d .digit .ensures) _ _ ∙ simp (lt-ltb _ _ (e .before .before .if2 .left), le-leb _ _ (e .before .if3 .left), le-leb _ _ (e .if4 .left)))
+    c .second .ensures ∙ sym (pair-first _ _ (d .before .before .if1 .left) (d .digit .ensures) (e .before .before .if2 .left) (e .before .if3 .left) (e .if4 .left))
 
 pub pair-spec : {M : Type 1} → statement M
 pair-spec =
