@@ -1,11 +1,19 @@
+-- the laws that crates above cite
 pub mod Once
 pub mod Tests
 pub mod Same
 pub mod Digits
 pub mod Solid
+pub mod Places
 pub mod Decimals
 pub mod Hexes
 pub mod Back
 pub mod Moved
 pub mod Final
-pub mod Places
+-- the states of the loops
+pub mod Passing
+pub mod Reading
+pub mod Placing
+pub mod Pairs
+pub mod Stepping
+pub mod Widths

@@ -64,6 +64,7 @@ unfoldable pub hexInto : Said → List ℕ → ℕ → HexRead
 hexInto (bad at) d to = Wrong at
 hexInto (good bs) d to = cond (leb (to + length bs) (length d)) (Bytes (length bs)) Full
 
+-- what the slice holds after it: nothing is altered where the data are bad or have no room
 unfoldable pub hexPut : Said → List ℕ → ℕ → List ℕ
 hexPut (bad at) d to = d
 hexPut (good bs) d to = cond (leb (to + length bs) (length d)) (sets d to bs) d
@@ -80,18 +81,22 @@ unfoldable pub hexSecond : ℕ → List ℕ → ℕ → Number
 hexSecond h [] at = Value h at
 hexSecond h (b ∷ rest) at = cond (ltb (digitOf b) 16) (Value (h * 16 + digitOf b) (at + 1)) (Value h at)
 
+-- one digit at least, and at most two
 unfoldable pub hexByteOf : List ℕ → ℕ → Number
 hexByteOf [] at = Bad at
 hexByteOf (a ∷ rest) at = cond (ltb (digitOf a) 16) (hexSecond (digitOf a) rest (at + 1)) (Bad at)
 
+-- the byte at a place
 unfoldable pub hexByteAt : List ℕ → ℕ → Number
 hexByteAt s at = hexByteOf (drop at s) at
 
 -- ---- "Data in hex, two capital digits and no spaces"
 
+-- the capital digit of a value below 16
 unfoldable pub capital : ℕ → ℕ
 capital d = cond (ltb d 10) (48 + d) (55 + d)
 
+-- the text of some bytes
 unfoldable pub hexText : List ℕ → List ℕ
 hexText [] = []
 hexText (b ∷ bs) = capital (b / 16) ∷ capital (b % 16) ∷ hexText bs

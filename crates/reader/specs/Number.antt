@@ -45,6 +45,7 @@ pairOf low high (a ∷ rest) at =
     (secondOf low high (digitOf a) rest (at + 1))
     (Bad at)
 
+-- the value of two digits at a place
 unfoldable pub pairAt : ℕ → ℕ → List ℕ → ℕ → Number
 pairAt low high s at = pairOf low high (drop at s) at
 

@@ -12,6 +12,7 @@ use Rattle.reader.specs.declared.Put.the-variants.{Next, NoRoom}
 unfoldable pub putAnswer : List ℕ → List ℕ → ℕ → Put
 putAnswer bs d at = cond (leb (at + length bs) (length d)) (Next (at + length bs)) NoRoom
 
+-- what the slice holds after it: nothing is altered where there is no room
 unfoldable pub putInto : List ℕ → List ℕ → ℕ → List ℕ
 putInto bs d at = cond (leb (at + length bs) (length d)) (sets d at bs) d
 
@@ -31,6 +32,7 @@ widthGo (suc more) w m = cond (ltb m (10 ^ w)) w (widthGo more (w + 1) m)
 unfoldable pub widthOf : ℕ → ℕ
 widthOf m = widthGo 9 1 m
 
+-- a number below 10 ^ 10 in as many digits as it has
 unfoldable pub decimal : ℕ → List ℕ
 decimal m = fixed (widthOf m) m
 

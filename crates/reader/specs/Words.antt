@@ -10,6 +10,7 @@ unfoldable pub skip : List ℕ → List ℕ
 skip [] = []
 skip (b ∷ l) = cond (isBlank b) (skip l) (b ∷ l)
 
+-- how many spaces and tabs are at the front
 unfoldable pub blanks : List ℕ → ℕ
 blanks [] = 0
 blanks (b ∷ l) = cond (isBlank b) (suc (blanks l)) 0
@@ -19,10 +20,12 @@ unfoldable pub wordOf : List ℕ → List ℕ
 wordOf [] = []
 wordOf (b ∷ l) = cond (isBlank b) [] (b ∷ wordOf l)
 
+-- how long the first word is
 unfoldable pub wordLength : List ℕ → ℕ
 wordLength [] = 0
 wordLength (b ∷ l) = cond (isBlank b) 0 (suc (wordLength l))
 
+-- what follows the first word
 unfoldable pub afterWord : List ℕ → List ℕ
 afterWord [] = []
 afterWord (b ∷ l) = cond (isBlank b) (b ∷ l) (afterWord l)

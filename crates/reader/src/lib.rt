@@ -1,4 +1,13 @@
 // Bytes, blanks, words, decimal numbers and hex data: read from a place of a slice, and written into a lent one.
+ghost use Prim.Native.Nat.{_+_};
+ghost use mathlib.Core.Path.{_≡_};
+ghost use lib.Dec.{leb};
+
+pub mod bytes;
+pub mod hex;
+pub mod numbers;
+pub mod words;
+pub mod writers;
 
 // A number with the place after it, or the place of the first byte that cannot be taken.
 pub enum Number {
@@ -31,4 +40,17 @@ pub enum HexRead {
 pub enum Put {
     Next(usize),
     NoRoom,
+}
+
+// Whether `need` bytes fit from `at` on into `len`.
+fn has_room(len: usize, at: usize, need: usize) -> bool
+    ensures { λ r. ⌜ r ≡ leb (at + need) len ⌝ }
+{
+    if len < at {
+        return false;
+    }
+    if len - at < need {
+        return false;
+    }
+    true
 }

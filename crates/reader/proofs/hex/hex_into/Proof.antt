@@ -1,0 +1,60 @@
+-- `hex_into` meets its contract: each `return` is a law on what the data say. Assumes nothing.
+use mathlib.Core.Path.{sym, _∙_}
+use borrow.Author.Tests.{leb-true}
+use Rattle.reader.proofs.Stepping.{counted-good, counted-room, into-wrong, into-full, into-fits}
+use borrow.Author.Needs.{needs}
+use Rattle.reader.proofs.hex.hex_into.Statement.{statement}
+use Rattle.reader.proofs.hex.hex_into.Tie as tie
+
+hex-count-requires : tie.Need-hex-count-requires
+hex-count-requires c κs = search needs
+
+enum-known-count : tie.Need-enum-known-count
+enum-known-count c = search needs
+
+enum-known-count-2 : tie.Need-enum-known-count-2
+enum-known-count-2 c = search needs
+
+has-room-requires : tie.Need-has-room-requires
+has-room-requires c κs = search needs
+
+hex-write-requires : tie.Need-hex-write-requires
+hex-write-requires c κs =
+    let r = c .before .before in
+    let n = r .before .before in
+    let told = sym (n .count2 .given .1) ∙ n .before .before .hex-count .ensures in
+    (counted-good _ told, counted-room _ _ _ told (leb-true _ _ (sym (r .has-room .ensures) ∙ c .before .if1 .taken)))
+
+same-length : tie.Need-same-length
+same-length c = search needs
+
+returns : tie.Need-returns
+returns c =
+    let w = c .before .before in
+    let r = w .before .before .before in
+    let n = r .before .before in
+    let f = into-fits _ _ _ (sym (n .count2 .given .1) ∙ n .before .before .hex-count .ensures) (r .has-room .ensures) (w .before .before .if1 .taken) in
+    (f .0, w .hex-write .ensures ∙ f .1)
+
+returns-2 : tie.Need-returns-2
+returns-2 c = into-wrong _ _ _ (sym (c .before .count .given .1) ∙ c .before .before .before .hex-count .ensures)
+
+returns-3 : tie.Need-returns-3
+returns-3 c =
+    let r = c .before in
+    let n = r .before .before in
+    into-full _ _ _ (sym (n .count2 .given .1) ∙ n .before .before .hex-count .ensures) (r .has-room .ensures) (c .if1 .left)
+
+pub hex-into-spec : {M : Type 1} → statement M
+hex-into-spec =
+    tie.close
+    (tie.spec
+    hex-count-requires
+    enum-known-count
+    enum-known-count-2
+    has-room-requires
+    hex-write-requires
+    same-length
+    returns
+    returns-2
+    returns-3)

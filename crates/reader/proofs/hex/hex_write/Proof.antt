@@ -1,0 +1,106 @@
+-- `hex_write` meets its contract: each turn of the loop is a law on its state, `Writing`. Assumes nothing.
+use Prim.Native.Nat.{_-_}
+use mathlib.Core.Path.{sym, _∙_}
+use native.Mathlib.Omega.{arith}
+use lib.ListN.{length}
+use Rattle.reader.specs.Hex.{hexAt, bytesOf}
+use Rattle.reader.proofs.Stepping.{Writing, unwritten, all-written, none-refused, parted, begins, room-there, byte-stored}
+use borrow.Author.Needs.{needs}
+use Rattle.reader.proofs.hex.hex_write.Statement.{statement}
+use Rattle.reader.proofs.hex.hex_write.Tie as tie
+
+abbrev Inv-loop : tie.InvT-loop
+Inv-loop s at dst₀ to place₀ half₀ i₀ dst place half i = Writing s dst₀ to (bytesOf (hexAt s at)) dst place half i
+
+abbrev μ-loop : tie.MeasureT-loop
+μ-loop s at dst₀ to place₀ half₀ i₀ dst place half i = length s - i
+
+loop-holds : tie.Need-loop-holds Inv-loop μ-loop
+loop-holds c = unwritten (c .before .before .pre .0) (c .before .before .pre .1)
+
+add-next : tie.Need-add-next Inv-loop μ-loop
+add-next c = omega arith
+
+shared-slice-read-hex-step : tie.Need-shared-slice-read-hex-step Inv-loop μ-loop
+shared-slice-read-hex-step c = omega arith
+
+hex-step-requires : tie.Need-hex-step-requires Inv-loop μ-loop
+hex-step-requires c κs = tt
+
+enum-told : tie.Need-enum-told Inv-loop μ-loop
+enum-told c = search needs
+
+same-length : tie.Need-same-length Inv-loop μ-loop
+same-length c = c .before .before .before .before .before .loop .inv .placing .long
+
+returns : tie.Need-returns Inv-loop μ-loop
+returns c = none-refused (c .before .before .before .before .before .loop .inv) (omega arith) (sym (c .enum-told .given .1) ∙ c .before .before .hex-step .ensures)
+
+enum-told-2 : tie.Need-enum-told-2 Inv-loop μ-loop
+enum-told-2 c = search needs
+
+enum-known-h : tie.Need-enum-known-h Inv-loop μ-loop
+enum-known-h c = search needs
+
+enum-known-b : tie.Need-enum-known-b Inv-loop μ-loop
+enum-known-b c = search needs
+
+slice-write-dst : tie.Need-slice-write-dst Inv-loop μ-loop
+slice-write-dst c = room-there (c .before .before .before .before .before .before .loop .inv) (omega arith) (sym (c .before .b .given .1) ∙ c .before .before .before .hex-step .ensures)
+
+add-place : tie.Need-add-place Inv-loop μ-loop
+add-place c =
+    let w = c .before .before .before .before .before .before .loop .inv in
+    let h = room-there w (omega arith) (sym (c .before .b .given .1) ∙ c .before .before .before .hex-step .ensures) in
+    omega (arith, w .placing .long)
+
+loop-less : tie.Need-loop-less Inv-loop μ-loop
+loop-less c = omega arith
+
+loop-again : tie.Need-loop-again Inv-loop μ-loop
+loop-again c = parted (c .before .before .before .before .before .loop .inv) (omega arith) (sym (c .enum-told2 .given .1) ∙ c .before .before .hex-step .ensures)
+
+loop-less-2 : tie.Need-loop-less-2 Inv-loop μ-loop
+loop-less-2 c = omega arith
+
+loop-again-2 : tie.Need-loop-again-2 Inv-loop μ-loop
+loop-again-2 c = begins (c .before .before .before .before .before .before .loop .inv) (omega arith) (sym (c .before .h .given .1) ∙ c .before .before .before .hex-step .ensures)
+
+loop-less-3 : tie.Need-loop-less-3 Inv-loop μ-loop
+loop-less-3 c = omega arith
+
+loop-again-3 : tie.Need-loop-again-3 Inv-loop μ-loop
+loop-again-3 c = byte-stored (c .before .before .before .before .before .before .loop .inv) (omega arith) (sym (c .before .b .given .1) ∙ c .before .before .before .hex-step .ensures)
+
+same-length-2 : tie.Need-same-length-2 Inv-loop μ-loop
+same-length-2 c = c .before .loop .inv .placing .long
+
+returns-2 : tie.Need-returns-2 Inv-loop μ-loop
+returns-2 c = all-written (c .before .loop .inv) (omega arith)
+
+pub hex-write-spec : {M : Type 1} → statement M
+hex-write-spec =
+    tie.close
+    (tie.spec
+    Inv-loop
+    μ-loop
+    loop-holds
+    add-next
+    shared-slice-read-hex-step
+    hex-step-requires
+    enum-told
+    same-length
+    returns
+    enum-told-2
+    enum-known-h
+    enum-known-b
+    slice-write-dst
+    add-place
+    loop-less
+    loop-again
+    loop-less-2
+    loop-again-2
+    loop-less-3
+    loop-again-3
+    same-length-2
+    returns-2)
