@@ -1,1 +1,4 @@
 pub mod Coding
+pub mod Bytes
+pub mod Clocks
+pub mod Back
