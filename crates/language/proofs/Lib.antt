@@ -4,3 +4,8 @@ pub mod Clocks
 pub mod Back
 pub mod Cutting
 pub mod Room
+pub mod Settings
+pub mod Folding
+pub mod Good
+pub mod Size
+pub mod Round

@@ -25,10 +25,10 @@ use Rattle.language.specs.Right.{isByte, inLine, dataRight, timeRight, l
 use Rattle.language.proofs.Bytes.{bytes-are, solid-line, plain-line}
 use Rattle.language.proofs.Clocks.{clock-length, clock-solid}
 
--- the length is told in 57ths of a byte, `more` of them over 21 bytes
-pub record Fine (more : ℕ) (l : List ℕ) : Type 0 where
+-- the length is told in 57ths of a byte, `over` of them over 21 bytes
+pub record Fine (over : ℕ) (l : List ℕ) : Type 0 where
   pub fits : length l ≤ lineLimit
-  pub small : length l * 57 ≤ 1197 + more
+  pub small : length l * 57 ≤ 1197 + over
   pub whole : all inLine l ≡ true
 
 -- data: in hex, or as text that is plain or has no room in hex
