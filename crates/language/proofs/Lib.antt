@@ -9,3 +9,6 @@ pub mod Folding
 pub mod Good
 pub mod Size
 pub mod Round
+pub mod Reading
+pub mod Gaps
+pub mod Meanings
