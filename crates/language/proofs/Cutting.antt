@@ -9,7 +9,7 @@ use lib.Dec.{eqb}
 use lib.ListN.{length}
 use lib.Seq.{append-snoc}
 use Rattle.reader.specs.Bytes.{all}
-use Rattle.reader.proofs.Tests.{both-left, both-right, all-append}
+use Rattle.reader.proofs.Tests.{both-left, both-right, all-append, both, by-cases}
 use Rattle.language.specs.Lines.{dropCr, inFront, rawLines, eachLine, linesOf}
 use Rattle.language.specs.Listing.{joined}
 use Rattle.language.specs.Right.{isByte, inLine}
@@ -105,3 +105,34 @@ lines-joined (l ∷ ls) h =
     ap linesOf (sym (append-snoc l 13 (10 ∷ joined ls)))
     ∙ line-ended (l ++ 13 ∷ []) (joined ls) (whole-line l (h .0))
     ∙ rw (cr-dropped l, lines-joined ls (h .1))
+
+-- ---- the lines of a text of bytes hold bytes, and no LF
+
+raw-lines : (t : List ℕ) → all isByte t ≡ true → AllInLine (rawLines t)
+unfolding rawLines inFront inLine
+raw-lines [] h = tt
+raw-lines (b ∷ t) h =
+    let r : AllInLine (rawLines t) = raw-lines t (both-right (isByte b) (all isByte t) h) in
+    by-cases AllInLine (eqb b 10) ([] ∷ rawLines t) (inFront b (rawLines t))
+    (λ e. (refl, r))
+    (λ e. front b (rawLines t) (both-left (isByte b) (all isByte t) h) e r)
+  where
+    front : (b : ℕ) (ls : List (List ℕ)) → isByte b ≡ true → eqb b 10 ≡ false → AllInLine ls → AllInLine (inFront b ls)
+    front b [] k e p = (both (inLine b) true (both (isByte b) (not (eqb b 10)) k (rw e)) refl, tt)
+    front b (l ∷ ls) k e p = (both (inLine b) (all inLine l) (both (isByte b) (not (eqb b 10)) k (rw e)) (p .0), p .1)
+
+all-cr : (p : ℕ → Bool) (l : List ℕ) → all p l ≡ true → all p (dropCr l) ≡ true
+unfolding dropCr
+all-cr p [] h = refl
+all-cr p (b ∷ []) h = by-cases (λ (x : List ℕ). all p x ≡ true) (eqb b 13) [] (b ∷ []) (λ e. refl) (λ e. h)
+all-cr p (b ∷ c ∷ l) h =
+    both (p b) (all p (dropCr (c ∷ l))) (both-left (p b) (all p (c ∷ l)) h) (all-cr p (c ∷ l) (both-right (p b) (all p (c ∷ l)) h))
+
+each-line : (ls : List (List ℕ)) → AllInLine ls → AllInLine (eachLine ls)
+unfolding eachLine
+each-line [] p = tt
+each-line (l ∷ ls) p = (all-cr inLine l (p .0), each-line ls (p .1))
+
+pub text-lines : (t : List ℕ) → all isByte t ≡ true → AllInLine (linesOf t)
+unfolding linesOf
+text-lines t h = each-line (rawLines t) (raw-lines t h)

@@ -12,3 +12,6 @@ pub mod Round
 pub mod Reading
 pub mod Gaps
 pub mod Meanings
+pub mod Sound
+pub mod Accepted
+pub mod Trip
