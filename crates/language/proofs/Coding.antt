@@ -8,7 +8,7 @@ use mathlib.Core.List.{List}
 use lib.ListN.{length, getD, List·getD-eq-default}
 use lib.Dec.{leb}
 use Rattle.reader.proofs.Tests.{both-right}
-use Rattle.language.specs.Cell.{kindOf, spanOf, spanRight, cellOf, decoded}
+use Rattle.language.specs.Cell.{bit, kindOf, spanOf, spanRight, cellOf, decoded}
 use Rattle.language.specs.declared.Cell.{Cell}
 use Rattle.language.specs.declared.Cell.the-variants.{Nothing, Send, Loop, End, WaitTime, WaitData, WaitByte, WaitClock, WaitSignal, Rts, Log, Fchange, Pause, Resume, Nop, Unknown}
 
@@ -18,6 +18,10 @@ unfolding spanRight
 within-pool low high a h =
     let inside = both-right (leb (a % 128) high) _ (both-right (leb low (a % 128)) _ h) in
     omega (arith, leb-true (a / 128 + a % 128) 1024 inside)
+
+pub bit-small : (b : Bool) → bit b < 2
+bit-small true = omega arith
+bit-small false = omega arith
 
 pub kind-small : (c : Cell) → kindOf c < 16
 kind-small Nothing = omega arith

@@ -1,4 +1,7 @@
 pub mod Coding
+pub mod Opened
+pub mod Cells
+pub mod Tables
 pub mod Bytes
 pub mod Clocks
 pub mod Back
