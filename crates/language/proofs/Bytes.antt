@@ -1,10 +1,11 @@
 -- What the tests of bytes say. Assumes nothing.
-use Prim.Native.Nat.{ℕ, _≤_, _<_}
+use Prim.Native.Nat.{ℕ, suc, _≤_, _<_}
 use mathlib.Core.Path.{_≡_, refl, sym}
 use mathlib.Core.Bool.{Bool, true, false, not}
 use mathlib.Core.List.{List, [], _∷_}
 use native.Mathlib.Omega.{arith}
 use lib.Dec.{leb, eqb}
+use lib.ListN.{getD}
 use borrow.Author.Tests.{ltb-true, lt-ltb, leb-true, ne-eqb}
 use Rattle.reader.specs.Bytes.{all}
 use Rattle.reader.proofs.Tests.{both, both-left, both-right, Every, every-of}
@@ -27,6 +28,12 @@ byte-is b h = ltb-true b 256 h
 
 pub bytes-are : (l : List ℕ) → all isByte l ≡ true → Every (λ b. b < 256) l
 bytes-are l h = every-of (λ b. b < 256) isByte byte-is l h
+
+-- as a slice of bytes tells it, of every place
+pub are-bytes : (l : List ℕ) → ((i : ℕ) → getD l i 0 < 256) → all isByte l ≡ true
+unfolding isByte
+are-bytes [] h = refl
+are-bytes (b ∷ l) h = both (isByte b) (all isByte l) (lt-ltb b 256 (h 0)) (are-bytes l (λ i. h (suc i)))
 
 -- ---- what a line can hold
 

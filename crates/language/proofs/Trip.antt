@@ -1,4 +1,4 @@
--- A LISTING COMPILES TO THE SAME SCRIPT, and the scripts that texts have are those that pass the test. Assumes nothing.
+-- A LISTING COMPILES TO THE SAME SCRIPT, and the scripts that texts have are exactly those that pass the test. Assumes nothing.
 use Prim.Native.Nat.{ℕ}
 use mathlib.Core.Path.{_≡_}
 use mathlib.Core.Bool.{true}
@@ -13,15 +13,25 @@ use Rattle.language.proofs.Size.{listing-bytes}
 use Rattle.language.proofs.Round.{round}
 use Rattle.language.proofs.Accepted.{compiled-good}
 
+-- a text of bytes has this script
+pub record Has (stretch : List Statement → ℕ) (s : Script) (t : List ℕ) : Type 0 where
+  pub bytes : all isByte t ≡ true
+  pub result : resultOf stretch t ≡ accepted s
+
 module _ (stretch : List Statement → ℕ) where
-  -- "A listing printed from a table compiles to that same table."
-  pub round-trip : (t : List ℕ) (s : Script) → all isByte t ≡ true → resultOf stretch t ≡ accepted s → resultOf stretch (listing s) ≡ accepted s
-  round-trip t s h e = round stretch s (compiled-good stretch t s h e)
+  -- "A listing printed from a table compiles to that same table"
+  pub round-trip : (s : Script) (t : List ℕ) → Has stretch s t → Has stretch s (listing s)
+  round-trip s t h =
+      let g = compiled-good stretch t s (h .bytes) (h .result) in
+      record { bytes = listing-bytes stretch s g; result = round stretch s g }
 
   -- a script that passes the test is the script of a text, its listing
-  pub right-accepted : (s : Script) → scriptRight stretch s ≡ true → (all isByte (listing s) ≡ true) × (resultOf stretch (listing s) ≡ accepted s)
-  right-accepted s h = (listing-bytes stretch s (good stretch s h), round stretch s (good stretch s h))
+  pub right-accepted : (s : Script) → scriptRight stretch s ≡ true → Has stretch s (listing s)
+  right-accepted s h = let g = good stretch s h in record { bytes = listing-bytes stretch s g; result = round stretch s g }
 
   -- and only such a script is: "no accepted script has this table" is a test that computes
-  pub accepted-right : (t : List ℕ) (s : Script) → all isByte t ≡ true → resultOf stretch t ≡ accepted s → scriptRight stretch s ≡ true
-  accepted-right t s h e = good-right stretch s (compiled-good stretch t s h e)
+  pub accepted-right : (s : Script) (t : List ℕ) → Has stretch s t → scriptRight stretch s ≡ true
+  accepted-right s t h = good-right stretch s (compiled-good stretch t s (h .bytes) (h .result))
+
+  pub right-exactly : (s : Script) → (scriptRight stretch s ≡ true → (t : List ℕ) × Has stretch s t) × (((t : List ℕ) × Has stretch s t) → scriptRight stretch s ≡ true)
+  right-exactly s = ((λ h. (listing s, right-accepted s h)), (λ p. accepted-right s (p .0) (p .1)))
