@@ -8,14 +8,14 @@ use lib.Dec.{leb}
 use lib.ListN.{length, length-append}
 use Rattle.figures.specs.Stretch.{limit}
 use Rattle.reader.specs.Bytes.{all}
-use Rattle.language.specs.Lines.{linesOf}
+use Rattle.reader.proofs.Tests.{both, by-cases}
 use Rattle.language.specs.declared.Fault.the-variants.{TextTooLong, StretchTooLong}
+use Rattle.language.specs.Lines.{linesOf}
 use Rattle.language.specs.Limits.{textLimit}
 use Rattle.language.specs.Script.{Statement, Item, Script, processes}
 use Rattle.language.specs.Listing.{bodyLines, settingLines, listedLines}
 use Rattle.language.specs.Right.{isByte, nests, allBelow}
 use Rattle.language.specs.Draft.{Result, accepted, refused, Draft, start, Taken, going, stop, takeLine, stretched, finished, after, fold, resultOf}
-use Rattle.reader.proofs.Tests.{both, by-cases}
 use Rattle.language.proofs.Good.{Good}
 use Rattle.language.proofs.Cutting.{AllInLine, text-lines}
 use Rattle.language.proofs.Sound.{Sound, needs-listed, Holds, line-on, start-sound}
@@ -40,10 +40,7 @@ module _ (stretch : List Statement → ℕ) where
   unfolding listedLines nests
   whole-good st i e b =
       record {
-        encode = i .settings .encode;
-        omit = i .settings .omit;
-        omitted = i .settings .omitted;
-        lfext = i .settings .lfext;
+        settings = i .settings;
         rights = i .rights;
         lines = omega (arith, length-append (settingLines (st .settings)) (bodyLines (st .body)), needs-listed (st .begun) (st .body), i .lines, i .counted);
         bytes = omega (arith, i .used, i .bytes);

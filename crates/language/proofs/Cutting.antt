@@ -87,10 +87,13 @@ cr-dropped [] = refl
 cr-dropped (b ∷ []) = refl
 cr-dropped (b ∷ c ∷ l) = ap (λ (x : List ℕ). b ∷ x) (cr-dropped (c ∷ l))
 
--- lines without an LF, of bytes
+-- each line is so; and each is of bytes, without an LF
+abbrev pub Each : (List ℕ → Type 0) → List (List ℕ) → Type 0
+Each P [] = Unit {0}
+Each P (l ∷ ls) = P l × Each P ls
+
 abbrev pub AllInLine : List (List ℕ) → Type 0
-AllInLine [] = Unit {0}
-AllInLine (l ∷ ls) = (all inLine l ≡ true) × AllInLine ls
+AllInLine ls = Each (λ l. all inLine l ≡ true) ls
 
 whole-line : (l : List ℕ) → all inLine l ≡ true → NoLf (l ++ 13 ∷ [])
 unfolding inLine

@@ -9,13 +9,13 @@ use lib.ListN.{length}
 use lib.Seq.{append-snoc}
 use borrow.Author.Tests.{lt-ltb, le-ltb, le-leb, eqb-true}
 use Rattle.reader.specs.Ascii.{ascii}
+use Rattle.reader.proofs.Tests.{both-left, both-right, true-is-false}
 use Rattle.language.specs.Limits.{lineLimit, linesLimit, dataLimit, processLimit}
 use Rattle.language.specs.Script.{Statement, Meaning, says, process, Settings, Item, does, next, processes, Shape, opens, closes, stays, shape, dataOf}
 use Rattle.language.specs.Meaning.{meaning}
 use Rattle.language.specs.Listing.{lineFor, itemLine, itemLines}
 use Rattle.language.specs.Right.{right, allRight, dataIn, nextsIn, mayNest, depthAfter, nests}
 use Rattle.language.specs.Draft.{Result, Draft, going, countLine, withItem, now, nest, takeNested, takeStatement, withNext, withFirst, beginning, takeProcess, take, takeCounted, isComment, takeLine, stretched, finished, after, fold}
-use Rattle.reader.proofs.Tests.{both-left, both-right, true-is-false}
 use Rattle.language.proofs.Back.{back}
 use Rattle.language.proofs.Room.{fine}
 use Rattle.language.proofs.Settings.{process-said, process-fine}

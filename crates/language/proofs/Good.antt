@@ -7,18 +7,21 @@ use lib.Dec.{ltb, leb}
 use lib.ListN.{length}
 use borrow.Author.Tests.{ltb-true, lt-ltb, leb-true, le-leb}
 use Rattle.reader.specs.Bytes.{all}
+use Rattle.reader.proofs.Tests.{both-left, both-right}
 use Rattle.language.specs.Limits.{linesLimit, dataLimit, omitLimit, processLimit}
 use Rattle.language.specs.Script.{Statement, Settings, Item, Script, processes}
 use Rattle.language.specs.Meaning.{extension}
 use Rattle.language.specs.Listing.{listedLines}
 use Rattle.language.specs.Right.{isByte, encodeRight, settingsRight, allRight, dataIn, nextsIn, nests, allBelow, scriptRight}
-use Rattle.reader.proofs.Tests.{both-left, both-right}
+
+pub record RightSettings (s : Settings) : Type 0 where
+  pub encode : encodeRight (s .encode) ≡ true
+  pub omit : all isByte (s .omit) ≡ true
+  pub omitted : length (s .omit) ≤ omitLimit
+  pub lfext : extension (s .lfext) ≡ true
 
 pub record Good (stretch : List Statement → ℕ) (s : Script) : Type 0 where
-  pub encode : encodeRight (s .settings .encode) ≡ true
-  pub omit : all isByte (s .settings .omit) ≡ true
-  pub omitted : length (s .settings .omit) ≤ omitLimit
-  pub lfext : extension (s .settings .lfext) ≡ true
+  pub settings : RightSettings (s .settings)
   pub rights : allRight (s .body) ≡ true
   pub lines : length (listedLines s) ≤ linesLimit
   pub bytes : dataIn (s .body) ≤ dataLimit
@@ -26,25 +29,34 @@ pub record Good (stretch : List Statement → ℕ) (s : Script) : Type 0 where
   pub few : nextsIn (s .body) < processLimit
   pub below : allBelow stretch (processes (s .body)) ≡ true
 
+settings-good : (x : Settings) → settingsRight x ≡ true → RightSettings x
+unfolding settingsRight
+settings-good x h =
+    let r0 = both-right (encodeRight (x .encode)) _ h in
+    let r1 = both-right (all isByte (x .omit)) _ r0 in
+    record {
+      encode = both-left (encodeRight (x .encode)) _ h;
+      omit = both-left (all isByte (x .omit)) _ r0;
+      omitted = leb-true (length (x .omit)) omitLimit (both-left (leb (length (x .omit)) omitLimit) _ r1);
+      lfext = both-right (leb (length (x .omit)) omitLimit) _ r1;
+    }
+
+good-settings : (x : Settings) → RightSettings x → settingsRight x ≡ true
+unfolding settingsRight
+good-settings x r = rw (r .encode, r .omit, le-leb (length (x .omit)) omitLimit (r .omitted), r .lfext)
+
 module _ (stretch : List Statement → ℕ) (s : Script) where
   pub good : scriptRight stretch s ≡ true → Good stretch s
-  unfolding scriptRight settingsRight
+  unfolding scriptRight
   good h =
-      let x : Settings = s .settings in
       let is : List Item = s .body in
-      let c0 = both-left (settingsRight x) _ h in
-      let r0 = both-right (settingsRight x) _ h in
+      let r0 = both-right (settingsRight (s .settings)) _ h in
       let r1 = both-right (allRight is) _ r0 in
       let r2 = both-right (leb (length (listedLines s)) linesLimit) _ r1 in
       let r3 = both-right (leb (dataIn is) dataLimit) _ r2 in
       let r4 = both-right (nests is 0) _ r3 in
-      let d0 = both-right (encodeRight (x .encode)) _ c0 in
-      let d1 = both-right (all isByte (x .omit)) _ d0 in
       record {
-        encode = both-left (encodeRight (x .encode)) _ c0;
-        omit = both-left (all isByte (x .omit)) _ d0;
-        omitted = leb-true (length (x .omit)) omitLimit (both-left (leb (length (x .omit)) omitLimit) _ d1);
-        lfext = both-right (leb (length (x .omit)) omitLimit) _ d1;
+        settings = settings-good (s .settings) (both-left (settingsRight (s .settings)) _ h);
         rights = both-left (allRight is) _ r0;
         lines = leb-true (length (listedLines s)) linesLimit (both-left (leb (length (listedLines s)) linesLimit) _ r1);
         bytes = leb-true (dataIn is) dataLimit (both-left (leb (dataIn is) dataLimit) _ r2);
@@ -54,6 +66,6 @@ module _ (stretch : List Statement → ℕ) (s : Script) where
       }
 
   pub good-right : Good stretch s → scriptRight stretch s ≡ true
-  unfolding scriptRight settingsRight
+  unfolding scriptRight
   good-right g =
-      rw (g .encode, g .omit, le-leb (length (s .settings .omit)) omitLimit (g .omitted), g .lfext, g .rights, le-leb (length (listedLines s)) linesLimit (g .lines), le-leb (dataIn (s .body)) dataLimit (g .bytes), g .nested, lt-ltb (nextsIn (s .body)) processLimit (g .few), g .below)
+      rw (good-settings (s .settings) (g .settings), g .rights, le-leb (length (listedLines s)) linesLimit (g .lines), le-leb (dataIn (s .body)) dataLimit (g .bytes), g .nested, lt-ltb (nextsIn (s .body)) processLimit (g .few), g .below)

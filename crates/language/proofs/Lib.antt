@@ -11,6 +11,7 @@ pub mod Settings
 pub mod Folding
 pub mod Good
 pub mod Size
+pub mod Longest
 pub mod Round
 pub mod Reading
 pub mod Gaps

@@ -11,19 +11,19 @@ use Rattle.figures.specs.Stretch.{limit}
 use Rattle.reader.specs.Ascii.{ascii}
 use Rattle.reader.specs.Bytes.{all, same}
 use Rattle.reader.specs.Hex.{hexText}
+use Rattle.reader.proofs.Tests.{both-left, both-right}
+use Rattle.reader.proofs.Same.{same-is}
 use Rattle.language.specs.Limits.{textLimit, linesLimit, dataLimit, omitLimit, processLimit}
 use Rattle.language.specs.Script.{Statement, setEncode, setStopbits, setOmit, setLfext, Encode, unset, byte, Settings, default, Item, does, next, Script, processes}
 use Rattle.language.specs.Meaning.{extension}
 use Rattle.language.specs.Listing.{lineFor, itemLine, itemLines, bodyLines, when, encodeLines, settingLines, listedLines, joined, listing}
 use Rattle.language.specs.Right.{isByte, encodeRight, allRight, dataIn, nextsIn, nests, allBelow}
 use Rattle.language.specs.Draft.{Result, accepted, Draft, start, countLine, withSettings, withFirst, takeOmit, take, isComment, stretched, finished, fold, resultOf}
-use Rattle.reader.proofs.Tests.{both-left, both-right}
-use Rattle.reader.proofs.Same.{same-is}
 use Rattle.language.proofs.Settings.{encode-said, encode-fine, stopbits-said, stopbits-fine, omit-said, omit-fine, lfext-said, lfext-fine}
 use Rattle.language.proofs.Cutting.{lines-joined}
 use Rattle.language.proofs.Folding.{line-taken, first-taken, items-length, Fits, step-does, fold-on, Done, goes-on, items-taken}
 use Rattle.language.proofs.Good.{Good}
-use Rattle.language.proofs.Size.{fine-ends, listed-fine, listing-size}
+use Rattle.language.proofs.Size.{lines-whole, listing-size}
 
 -- before any statement or PROCESS line, with `c` lines counted
 abbrev ready : ℕ → Settings → Draft
@@ -138,10 +138,10 @@ module _ (stretch : List Statement → ℕ) where
       λ row c k. body-taken (s .body) row c x (record { rights = g .rights; lines = k; bytes = g .bytes; nested = g .nested; few = g .few })
       in
       let whole =
-      encode-leads (x .encode) _ _ (g .encode)
+      encode-leads (x .encode) _ _ (g .settings .encode)
       (stopbits-leads (x .encode) (x .twoStopbits) _ _
-      (omit-leads (x .encode) (x .twoStopbits) (x .omit) _ _ (g .omit) (g .omitted)
-      (lfext-leads (x .encode) (x .twoStopbits) (x .omit) (x .lfext) ls _ (g .lfext) body)))
+      (omit-leads (x .encode) (x .twoStopbits) (x .omit) _ _ (g .settings .omit) (g .settings .omitted)
+      (lfext-leads (x .encode) (x .twoStopbits) (x .omit) (x .lfext) ls _ (g .settings .lfext) body)))
       in
       simp append-assoc (whole 1 0 (omega (arith, simp append-assoc at (g .lines))) ∙ stretched-right (processes (s .body)) 1 s (g .below))
 
@@ -149,4 +149,4 @@ module _ (stretch : List Statement → ℕ) where
   unfolding resultOf listing
   round s g =
       let size : length (listing s) ≤ textLimit = omega (arith, listing-size stretch s g) in
-      rw (le-leb (length (joined (listedLines s))) textLimit size, lines-joined (listedLines s) (fine-ends (listed-fine stretch s g))) (lines-back s g)
+      rw (le-leb (length (joined (listedLines s))) textLimit size, lines-joined (listedLines s) (lines-whole stretch s g)) (lines-back s g)

@@ -1,6 +1,5 @@
--- A listing is within its bounds as a text: each line of it is fine, and it is at most 13,670 bytes long. That is the best bound:
--- 493 lines `#WAIT CLOCK` with four units, 17 lines `#WAIT DATA` with 57 bytes in hex and one with 55, and a line `#f:OMIT` with
--- ten bytes reach it. Assumes nothing.
+-- A listing is within its bounds as a text: each line of it is fine, and it is at most 13,670 bytes long. That is the best bound, as
+-- Longest shows. Assumes nothing.
 use Prim.Native.Nat.{ℕ, _+_, _*_, _≤_}
 use mathlib.Core.Path.{_≡_, refl}
 use mathlib.Core.Bool.{Bool, true, false, not}
@@ -9,33 +8,32 @@ use native.Mathlib.Omega.{arith}
 use lib.ListN.{length, length-append}
 use Rattle.reader.specs.Ascii.{ascii}
 use Rattle.reader.specs.Bytes.{all, same}
-use Rattle.language.specs.Limits.{omitLimit}
-use Rattle.language.specs.Script.{Statement, Encode, unset, byte, Settings, Item, does, next, Script, dataOf}
-use Rattle.language.specs.Meaning.{extension}
-use Rattle.language.specs.Listing.{itemLine, itemLines, bodyLines, when, encodeLines, settingLines, listedLines, joined, listing}
-use Rattle.language.specs.Right.{isByte, right, encodeRight, allRight, dataIn}
 use Rattle.reader.proofs.Tests.{both-left, both-right, all-append}
+use Rattle.language.specs.Limits.{lineLimit}
+use Rattle.language.specs.Script.{Statement, Encode, unset, byte, Settings, Item, does, next, Script, dataOf}
+use Rattle.language.specs.Listing.{itemLine, itemLines, bodyLines, when, encodeLines, settingLines, listedLines, joined, listing}
+use Rattle.language.specs.Right.{isByte, inLine, right, encodeRight, allRight, dataIn}
 use Rattle.language.proofs.Bytes.{line-bytes}
-use Rattle.language.proofs.Good.{Good}
+use Rattle.language.proofs.Good.{RightSettings, Good}
 use Rattle.language.proofs.Room.{Fine, fine}
-use Rattle.language.proofs.Cutting.{AllInLine}
+use Rattle.language.proofs.Cutting.{Each, AllInLine}
 use Rattle.language.proofs.Settings.{process-fine, encode-fine, stopbits-fine, omit-fine, lfext-fine}
 
 -- fine lines, with at most so many 57ths of a byte over 21 bytes for each
-pub data FineLines : List (List ℕ) → ℕ → Type 0 where
+data FineLines : List (List ℕ) → ℕ → Type 0 where
   none : {w : ℕ} → FineLines [] w
   more : {l : List ℕ} {ls : List (List ℕ)} {u v w : ℕ} → Fine u l → FineLines ls v → u + v ≤ w → FineLines (l ∷ ls) w
 
-pub fine-ends : {ls : List (List ℕ)} {u : ℕ} → FineLines ls u → AllInLine ls
-fine-ends none = tt
-fine-ends (more f r h) = (f .whole, fine-ends r)
+fine-each : (P : List ℕ → Type 0) → ((u : ℕ) (l : List ℕ) → Fine u l → P l) → {ls : List (List ℕ)} {u : ℕ} → FineLines ls u → Each P ls
+fine-each P f none = tt
+fine-each P f (more {l = l} {u = u} h r k) = (f u l h, fine-each P f r)
 
-pub fine-bytes : {ls : List (List ℕ)} {u : ℕ} → FineLines ls u → all isByte (joined ls) ≡ true
+fine-bytes : {ls : List (List ℕ)} {u : ℕ} → FineLines ls u → all isByte (joined ls) ≡ true
 unfolding joined isByte
 fine-bytes none = refl
 fine-bytes (more {l = l} {ls = ls} f r h) = all-append isByte l (13 ∷ 10 ∷ joined ls) (line-bytes l (f .whole)) (fine-bytes r)
 
-pub fine-size : {ls : List (List ℕ)} {u : ℕ} → FineLines ls u → length (joined ls) * 57 ≤ length ls * 1311 + u
+fine-size : {ls : List (List ℕ)} {u : ℕ} → FineLines ls u → length (joined ls) * 57 ≤ length ls * 1311 + u
 unfolding joined
 fine-size none = omega arith
 fine-size (more {l = l} {ls = ls} f r h) = omega (arith, f .small, fine-size r, length-append l (13 ∷ 10 ∷ joined ls))
@@ -73,24 +71,28 @@ unfolding encodeLines encodeRight
 encode-lines-fine unset h = none
 encode-lines-fine (byte b) h = one (encode-fine b h)
 
-settings-fine : (s : Settings) → encodeRight (s .encode) ≡ true → all isByte (s .omit) ≡ true → length (s .omit) ≤ omitLimit → extension (s .lfext) ≡ true
-    → FineLines (settingLines s) 456
+settings-fine : (s : Settings) → RightSettings s → FineLines (settingLines s) 456
 unfolding settingLines
-settings-fine s c b o e =
-    fine-append {u = 0} {v = 456} (encode-lines-fine (s .encode) c)
+settings-fine s r =
+    fine-append {u = 0} {v = 456} (encode-lines-fine (s .encode) (r .encode))
     (fine-append {u = 0} {v = 456} (when-fine (s .twoStopbits) _ stopbits-fine)
-    (fine-append {u = 456} {v = 0} (when-fine (not (same (s .omit) [])) _ (omit-fine (s .omit) b o))
-    (when-fine (not (same (s .lfext) (ascii "LOG"))) _ (lfext-fine (s .lfext) e)) (omega arith)) (omega arith)) (omega arith)
+    (fine-append {u = 456} {v = 0} (when-fine (not (same (s .omit) [])) _ (omit-fine (s .omit) (r .omit) (r .omitted)))
+    (when-fine (not (same (s .lfext) (ascii "LOG"))) _ (lfext-fine (s .lfext) (r .lfext))) (omega arith)) (omega arith)) (omega arith)
 
 -- the longest listing
 abbrev pub listingLimit : ℕ
 listingLimit = 13670
 
 module _ (stretch : List Statement → ℕ) where
-  pub listed-fine : (s : Script) → Good stretch s → FineLines (listedLines s) (456 + dataIn (s .body) * 105)
+  listed-fine : (s : Script) → Good stretch s → FineLines (listedLines s) (456 + dataIn (s .body) * 105)
   unfolding listedLines
-  listed-fine s g =
-      fine-append (settings-fine (s .settings) (g .encode) (g .omit) (g .omitted) (g .lfext)) (body-fine (s .body) (g .rights)) (omega arith)
+  listed-fine s g = fine-append (settings-fine (s .settings) (g .settings)) (body-fine (s .body) (g .rights)) (omega arith)
+
+  pub lines-whole : (s : Script) → Good stretch s → AllInLine (listedLines s)
+  lines-whole s g = fine-each (λ l. all inLine l ≡ true) (λ u l f. f .whole) (listed-fine s g)
+
+  pub lines-fit : (s : Script) → Good stretch s → Each (λ l. length l ≤ lineLimit) (listedLines s)
+  lines-fit s g = fine-each (λ l. length l ≤ lineLimit) (λ u l f. f .fits) (listed-fine s g)
 
   pub listing-size : (s : Script) → Good stretch s → length (listing s) ≤ listingLimit
   unfolding listing

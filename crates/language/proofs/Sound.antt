@@ -12,6 +12,7 @@ use borrow.Author.Tests.{ltb-true, ltb-false, leb-true, lt-ltb}
 use Rattle.reader.specs.Ascii.{ascii}
 use Rattle.reader.specs.Bytes.{all, same}
 use Rattle.reader.specs.Hex.{hexText}
+use Rattle.reader.proofs.Tests.{all-append, both, both-left, both-right, by-cases}
 use Rattle.language.specs.declared.Fault.the-variants.{LineTooLong, TooManyLines, TooMuchData, TooManyOmits, TooManyLoops, TooManyProcesses}
 use Rattle.language.specs.Limits.{lineLimit, linesLimit, dataLimit, omitLimit, loopLimit, processLimit}
 use Rattle.language.specs.Script.{Statement, Meaning, comment, blank, process, setEx, says, setEncode, setStopbits, setOmit, setLfext, fault, Encode, byte, Settings, default, Item, does, next, Shape, opens, closes, stays, shape, dataOf}
@@ -19,9 +20,9 @@ use Rattle.language.specs.Meaning.{meaning, isCapital, extension}
 use Rattle.language.specs.Listing.{bodyLines, when, encodeLines, settingLines}
 use Rattle.language.specs.Right.{isByte, inLine, right, meaningRight, encodeRight, allRight, dataIn, nextsIn, mayNest, depthAfter, nests}
 use Rattle.language.specs.Draft.{Draft, start, Taken, going, stop, countLine, withSettings, withItem, now, broken, nest, takeNested, takeStatement, withNext, withFirst, beginning, takeProcess, takeOmit, take, takeCounted, isComment, takeLine}
-use Rattle.reader.proofs.Tests.{all-append, both, both-left, both-right, by-cases}
 use Rattle.language.proofs.Meanings.{meaning-right}
 use Rattle.language.proofs.Folding.{items-length}
+use Rattle.language.proofs.Good.{RightSettings}
 
 -- how many lines the body needs: a first process that is empty takes a PROCESS line of its own
 pub needs : Bool → List Item → ℕ
@@ -29,13 +30,7 @@ needs begun [] = cond begun 1 0
 needs begun (does s ∷ is) = 1 + length is
 needs begun (next ∷ is) = 2 + length is
 
-pub record RightSettings (s : Settings) : Type 0 where
-  pub encode : encodeRight (s .encode) ≡ true
-  pub omit : all isByte (s .omit) ≡ true
-  pub omitted : length (s .omit) ≤ omitLimit
-  pub lfext : extension (s .lfext) ≡ true
-
--- what holds of the state between lines; `spare` lines are counted and not yet used
+-- what holds of the draft between lines; `spare` lines are counted and not yet used
 pub record Sound (spare : ℕ) (st : Draft) : Type 0 where
   pub settings : RightSettings (st .settings)
   pub rights : allRight (st .body) ≡ true
@@ -49,19 +44,12 @@ pub record Sound (spare : ℕ) (st : Draft) : Type 0 where
 
 -- ---- laws of the body
 
-rights-snoc : (is : List Item) (s : Statement) → allRight is ≡ true → right s ≡ true → allRight (is ++ does s ∷ []) ≡ true
+rights-snoc : (is : List Item) (i : Item) → allRight is ≡ true → allRight (i ∷ []) ≡ true → allRight (is ++ i ∷ []) ≡ true
 unfolding allRight
-rights-snoc [] s h r = both (right s) true r refl
-rights-snoc (does x ∷ is) s h r =
-    both (right x) (allRight (is ++ does s ∷ [])) (both-left (right x) (allRight is) h) (rights-snoc is s (both-right (right x) (allRight is) h) r)
-rights-snoc (next ∷ is) s h r = rights-snoc is s h r
-
-rights-next : (is : List Item) → allRight is ≡ true → allRight (is ++ next ∷ []) ≡ true
-unfolding allRight
-rights-next [] h = refl
-rights-next (does x ∷ is) h =
-    both (right x) (allRight (is ++ next ∷ [])) (both-left (right x) (allRight is) h) (rights-next is (both-right (right x) (allRight is) h))
-rights-next (next ∷ is) h = rights-next is h
+rights-snoc [] i h r = r
+rights-snoc (does x ∷ is) i h r =
+    both (right x) (allRight (is ++ i ∷ [])) (both-left (right x) (allRight is) h) (rights-snoc is i (both-right (right x) (allRight is) h) r)
+rights-snoc (next ∷ is) i h r = rights-snoc is i h r
 
 data-snoc : (is : List Item) (i : Item) → dataIn (is ++ i ∷ []) ≡ dataIn is + dataIn (i ∷ [])
 unfolding dataIn
@@ -126,7 +114,7 @@ module _ (row : ℕ) (st : Draft) (i : Sound 1 st) where
   item-on s ls r u m d =
       record {
         settings = i .settings;
-        rights = rights-snoc (st .body) s (i .rights) r;
+        rights = rights-snoc (st .body) (does s) (i .rights) (unfold allRight in both (right s) true r refl);
         used = omega (arith, i .used, data-snoc (st .body) (does s));
         bytes = u;
         nested = λ rest. ap (λ (x : List Item). nests x 0) (append-snoc (st .body) (does s) rest) ∙ i .nested (does s ∷ rest) ∙ inside rest;
@@ -144,7 +132,7 @@ module _ (row : ℕ) (st : Draft) (i : Sound 1 st) where
   next-on l b c =
       record {
         settings = i .settings;
-        rights = rights-next (st .body) (i .rights);
+        rights = rights-snoc (st .body) next (i .rights) (unfold allRight in refl);
         used = omega (arith, i .used, data-snoc (st .body) next);
         bytes = i .bytes;
         nested = λ rest. ap (λ (x : List Item). nests x 0) (append-snoc (st .body) next rest) ∙ i .nested (next ∷ rest) ∙ inside rest;
