@@ -1,0 +1,295 @@
+-- WHAT HOLDS OF THE DRAFT BETWEEN LINES: what it has is right, within the limits, and takes no more listed lines than were counted.
+-- Assumes nothing.
+use Prim.Native.Nat.{ℕ, suc, _+_, _≤_, _<_}
+use mathlib.Core.Path.{_≡_, refl, ap, subst, _∙_}
+use mathlib.Core.Bool.{Bool, true, false, cond, not}
+use mathlib.Core.List.{List, [], _∷_, _++_}
+use native.Mathlib.Omega.{arith}
+use lib.Dec.{ltb, leb}
+use lib.ListN.{length, length-append}
+use lib.Seq.{append-snoc}
+use borrow.Author.Tests.{ltb-true, ltb-false, leb-true, lt-ltb}
+use Rattle.reader.specs.Ascii.{ascii}
+use Rattle.reader.specs.Bytes.{all, same}
+use Rattle.reader.specs.Hex.{hexText}
+use Rattle.reader.proofs.Tests.{all-append, both, both-left, both-right, by-cases}
+use Rattle.language.specs.declared.Fault.the-variants.{LineTooLong, TooManyLines, TooMuchData, TooManyOmits, TooManyLoops, TooManyProcesses}
+use Rattle.language.specs.Limits.{lineLimit, linesLimit, dataLimit, omitLimit, loopLimit, processLimit}
+use Rattle.language.specs.Script.{Statement, Meaning, comment, blank, process, setEx, says, setEncode, setStopbits, setOmit, setLfext, fault, Encode, byte, Settings, default, Item, does, next, Shape, opens, closes, stays, shape, dataOf}
+use Rattle.language.specs.Meaning.{meaning, isCapital, extension}
+use Rattle.language.specs.Listing.{bodyLines, when, encodeLines, settingLines}
+use Rattle.language.specs.Right.{isByte, inLine, right, meaningRight, encodeRight, allRight, dataIn, nextsIn, mayNest, depthAfter, nests}
+use Rattle.language.specs.Draft.{Draft, start, Taken, going, stop, countLine, withSettings, withItem, now, broken, nest, takeNested, takeStatement, withNext, withFirst, beginning, takeProcess, takeOmit, take, takeCounted, isComment, takeLine}
+use Rattle.language.proofs.Meanings.{meaning-right}
+use Rattle.language.proofs.Folding.{items-length}
+use Rattle.language.proofs.Good.{RightSettings}
+
+-- how many lines the body needs: a first process that is empty takes a PROCESS line of its own
+pub needs : Bool → List Item → ℕ
+needs begun [] = cond begun 1 0
+needs begun (does s ∷ is) = 1 + length is
+needs begun (next ∷ is) = 2 + length is
+
+-- what holds of the draft between lines; `spare` lines are counted and not yet used
+pub record Sound (spare : ℕ) (st : Draft) : Type 0 where
+  pub settings : RightSettings (st .settings)
+  pub rights : allRight (st .body) ≡ true
+  pub used : st .used ≡ dataIn (st .body)
+  pub bytes : st .used ≤ dataLimit
+  pub nested : (rest : List Item) → nests (st .body ++ rest) 0 ≡ nests rest (length (st .loops))
+  pub count : st .count ≡ 1 + nextsIn (st .body)
+  pub few : st .count ≤ processLimit
+  pub lines : length (settingLines (st .settings)) + needs (st .begun) (st .body) + spare ≤ st .counted
+  pub counted : st .counted ≤ linesLimit
+
+-- ---- laws of the body
+
+rights-snoc : (is : List Item) (i : Item) → allRight is ≡ true → allRight (i ∷ []) ≡ true → allRight (is ++ i ∷ []) ≡ true
+unfolding allRight
+rights-snoc [] i h r = r
+rights-snoc (does x ∷ is) i h r =
+    both (right x) (allRight (is ++ i ∷ [])) (both-left (right x) (allRight is) h) (rights-snoc is i (both-right (right x) (allRight is) h) r)
+rights-snoc (next ∷ is) i h r = rights-snoc is i h r
+
+data-snoc : (is : List Item) (i : Item) → dataIn (is ++ i ∷ []) ≡ dataIn is + dataIn (i ∷ [])
+unfolding dataIn
+data-snoc [] i = omega arith
+data-snoc (does s ∷ is) i = omega (arith, data-snoc is i)
+data-snoc (next ∷ is) i = data-snoc is i
+
+nexts-snoc : (is : List Item) (i : Item) → nextsIn (is ++ i ∷ []) ≡ nextsIn is + nextsIn (i ∷ [])
+unfolding nextsIn
+nexts-snoc [] i = omega arith
+nexts-snoc (does s ∷ is) i = nexts-snoc is i
+nexts-snoc (next ∷ is) i = omega (arith, nexts-snoc is i)
+
+needs-does : (begun : Bool) (is : List Item) (s : Statement) → needs true (is ++ does s ∷ []) ≤ needs begun is + 1
+unfolding needs
+needs-does begun [] s = omega arith
+needs-does begun (does x ∷ is) s = omega (arith, length-append is (does s ∷ []))
+needs-does begun (next ∷ is) s = omega (arith, length-append is (does s ∷ []))
+
+needs-next : (is : List Item) → needs true (is ++ next ∷ []) ≤ needs true is + 1
+unfolding needs
+needs-next [] = omega arith
+needs-next (does x ∷ is) = omega (arith, length-append is (next ∷ []))
+needs-next (next ∷ is) = omega (arith, length-append is (next ∷ []))
+
+needs-first : (is : List Item) → needs true is ≤ needs false is + 1
+unfolding needs
+needs-first [] = omega arith
+needs-first (does x ∷ is) = omega arith
+needs-first (next ∷ is) = omega arith
+
+pub needs-listed : (begun : Bool) (is : List Item) → length (bodyLines is) ≤ needs begun is
+unfolding needs bodyLines
+needs-listed begun [] = omega arith
+needs-listed begun (does s ∷ is) = omega (arith, items-length (does s ∷ is))
+needs-listed begun (next ∷ is) = omega (arith, items-length (next ∷ is))
+
+-- ---- what a line leaves
+
+abbrev pub Holds : Taken → Type 0
+Holds (going st) = Sound 0 st
+Holds (stop n row) = Unit {0}
+
+relaxed : (st : Draft) → Sound 1 st → Holds (going st)
+relaxed st i =
+    record { settings = i .settings; rights = i .rights; used = i .used; bytes = i .bytes; nested = i .nested; count = i .count; few = i .few; lines = omega (arith, i .lines); counted = i .counted }
+
+counted-on : (st : Draft) → Sound 0 st → st .counted < linesLimit → Sound 1 (countLine st)
+unfolding countLine
+counted-on st i h =
+    record { settings = i .settings; rights = i .rights; used = i .used; bytes = i .bytes; nested = i .nested; count = i .count; few = i .few; lines = omega (arith, i .lines); counted = omega arith }
+
+module _ (row : ℕ) (st : Draft) (i : Sound 1 st) where
+  settings-on : (s : Settings) → RightSettings s → length (settingLines s) ≤ length (settingLines (st .settings)) + 1 → Holds (going (withSettings st s))
+  unfolding withSettings
+  settings-on s r h =
+      record { settings = r; rights = i .rights; used = i .used; bytes = i .bytes; nested = i .nested; count = i .count; few = i .few; lines = omega (arith, i .lines); counted = i .counted }
+
+  item-on : (s : Statement) (ls : List ℕ) → right s ≡ true → st .used + length (dataOf s) ≤ dataLimit
+      → mayNest (shape s) (length (st .loops)) ≡ true → length ls ≡ depthAfter (shape s) (length (st .loops)) → Holds (going (withItem st ls s))
+  unfolding withItem dataIn nextsIn
+  item-on s ls r u m d =
+      record {
+        settings = i .settings;
+        rights = rights-snoc (st .body) (does s) (i .rights) (unfold allRight in both (right s) true r refl);
+        used = omega (arith, i .used, data-snoc (st .body) (does s));
+        bytes = u;
+        nested = λ rest. ap (λ (x : List Item). nests x 0) (append-snoc (st .body) (does s) rest) ∙ i .nested (does s ∷ rest) ∙ inside rest;
+        count = omega (arith, i .count, nexts-snoc (st .body) (does s));
+        few = i .few;
+        lines = omega (arith, i .lines, needs-does (st .begun) (st .body) s);
+        counted = i .counted;
+      }
+    where
+      inside : (rest : List Item) → nests (does s ∷ rest) (length (st .loops)) ≡ nests rest (length ls)
+      inside rest = unfold nests in rw (m, d)
+
+  next-on : st .loops ≡ [] → st .begun ≡ true → st .count < processLimit → Holds (going (withNext st))
+  unfolding withNext dataIn nextsIn
+  next-on l b c =
+      record {
+        settings = i .settings;
+        rights = rights-snoc (st .body) next (i .rights) (unfold allRight in refl);
+        used = omega (arith, i .used, data-snoc (st .body) next);
+        bytes = i .bytes;
+        nested = λ rest. ap (λ (x : List Item). nests x 0) (append-snoc (st .body) next rest) ∙ i .nested (next ∷ rest) ∙ inside rest;
+        count = omega (arith, i .count, nexts-snoc (st .body) next);
+        few = omega arith;
+        lines = omega (arith, subst (λ (t : Bool). length (settingLines (st .settings)) + needs t (st .body) + 1 ≤ st .counted) b (i .lines), needs-next (st .body));
+        counted = i .counted;
+      }
+    where
+      inside : (rest : List Item) → nests (next ∷ rest) (length (st .loops)) ≡ nests rest 0
+      inside rest = unfold nests in rw l
+
+  first-on : st .loops ≡ [] → st .begun ≡ false → Holds (going (withFirst st))
+  unfolding withFirst
+  first-on l b =
+      record {
+        settings = i .settings;
+        rights = i .rights;
+        used = i .used;
+        bytes = i .bytes;
+        nested = λ rest. i .nested rest ∙ ap (λ (ls : List ℕ). nests rest (length ls)) l;
+        count = i .count;
+        few = i .few;
+        lines = omega (arith, subst (λ (t : Bool). length (settingLines (st .settings)) + needs t (st .body) + 1 ≤ st .counted) b (i .lines), needs-first (st .body));
+        counted = i .counted;
+      }
+
+  nested-on : (s : Statement) → right s ≡ true → st .used + length (dataOf s) ≤ dataLimit → Holds (takeNested row st s (nest row (shape s) (st .loops)))
+  unfolding takeNested nest mayNest depthAfter
+  nested-on s r u = go (shape s) (st .loops) (λ ls m d. item-on s ls r u m d)
+    where
+      opened : (ls : List ℕ) (t : Bool) → ltb (length ls) loopLimit ≡ t
+          → ((ls₁ : List ℕ) → ltb (length ls) loopLimit ≡ true → length ls₁ ≡ length ls + 1 → Holds (going (withItem st ls₁ s)))
+          → Holds (takeNested row st s (cond t (now (row ∷ ls)) (broken TooManyLoops)))
+      opened ls true e g = g (row ∷ ls) e (omega arith)
+      opened ls false e g = tt
+
+      go : (sh : Shape) (ls : List ℕ)
+          → ((ls₁ : List ℕ) → mayNest sh (length ls) ≡ true → length ls₁ ≡ depthAfter sh (length ls) → Holds (going (withItem st ls₁ s)))
+          → Holds (takeNested row st s (nest row sh ls))
+      go stays ls f = f ls refl refl
+      go opens ls f = opened ls (ltb (length ls) loopLimit) refl f
+      go closes [] f = tt
+      go closes (l ∷ ls) f = f ls (lt-ltb 0 (suc (length ls)) (omega arith)) (omega arith)
+
+  statement-on : (s : Statement) → right s ≡ true → Holds (takeStatement row st s)
+  unfolding takeStatement
+  statement-on s r =
+      by-cases Holds (leb (st .used + length (dataOf s)) dataLimit) _ (stop TooMuchData row)
+      (λ e. nested-on s r (leb-true (st .used + length (dataOf s)) dataLimit e)) (λ e. tt)
+
+  process-on : Holds (takeProcess row st (st .loops))
+  unfolding takeProcess beginning
+  process-on = go (st .loops) refl
+    where
+      go : (ls : List ℕ) → st .loops ≡ ls → Holds (takeProcess row st ls)
+      go (l ∷ ls) e = tt
+      go [] e =
+          by-cases Holds (st .begun) _ _
+          (λ b. by-cases Holds (ltb (st .count) processLimit) (going (withNext st)) (stop TooManyProcesses row) (λ c. next-on e b (ltb-true (st .count) processLimit c)) (λ c. tt))
+          (λ b. first-on e b)
+
+-- ---- settings
+
+when-one : (t : Bool) (l : List ℕ) → length (when t l) ≤ 1
+when-one true l = omega arith
+when-one false l = omega arith
+
+-- how many lines the settings take, part by part
+encodeNeeds : Encode → ℕ
+encodeNeeds e = length (encodeLines e)
+
+stopbitsNeeds : Bool → ℕ
+stopbitsNeeds t = length (when t (ascii "#f:STOPBITS 2"))
+
+omitNeeds : List ℕ → ℕ
+omitNeeds o = length (when (not (same o [])) (ascii "#f:OMIT :" ++ hexText o))
+
+lfextNeeds : List ℕ → ℕ
+lfextNeeds x = length (when (not (same x (ascii "LOG"))) (ascii "#f:LFEXT " ++ x))
+
+settings-length : (s : Settings)
+    → length (settingLines s) ≡ encodeNeeds (s .encode) + (stopbitsNeeds (s .twoStopbits) + (omitNeeds (s .omit) + lfextNeeds (s .lfext)))
+unfolding settingLines encodeNeeds stopbitsNeeds omitNeeds lfextNeeds
+settings-length s = simp length-append
+
+stopbits-one : (t : Bool) → stopbitsNeeds t ≤ 1
+unfolding stopbitsNeeds
+stopbits-one t = when-one t (ascii "#f:STOPBITS 2")
+
+omit-one : (o : List ℕ) → omitNeeds o ≤ 1
+unfolding omitNeeds
+omit-one o = when-one (not (same o [])) (ascii "#f:OMIT :" ++ hexText o)
+
+lfext-one : (x : List ℕ) → lfextNeeds x ≤ 1
+unfolding lfextNeeds
+lfext-one x = when-one (not (same x (ascii "LOG"))) (ascii "#f:LFEXT " ++ x)
+
+take-on : (row : ℕ) (st : Draft) (m : Meaning) → Sound 1 st → meaningRight m ≡ true → Holds (take row st m)
+unfolding take meaningRight takeOmit encodeRight
+take-on row st comment i h = relaxed st i
+take-on row st blank i h = relaxed st i
+take-on row st process i h = process-on row st i
+take-on row st setEx i h = relaxed st i
+take-on row st (says s) i h = statement-on row st i s h
+take-on row st (setEncode b) i h =
+    let x : Settings = st .settings in
+    let y : Settings = record { encode = byte b; twoStopbits = x .twoStopbits; omit = x .omit; lfext = x .lfext } in
+    let one : encodeNeeds (byte b) ≤ 1 = unfold encodeNeeds encodeLines in omega arith in
+    settings-on row st i y
+    (record { encode = h; omit = i .settings .omit; omitted = i .settings .omitted; lfext = i .settings .lfext })
+    (omega (arith, settings-length y, settings-length x, one))
+take-on row st (setStopbits two) i h =
+    let x : Settings = st .settings in
+    let y : Settings = record { encode = x .encode; twoStopbits = two; omit = x .omit; lfext = x .lfext } in
+    settings-on row st i y
+    (record { encode = i .settings .encode; omit = i .settings .omit; omitted = i .settings .omitted; lfext = i .settings .lfext })
+    (omega (arith, settings-length y, settings-length x, stopbits-one two))
+take-on row st (setOmit bs) i h =
+    let x : Settings = st .settings in
+    let y : Settings = record { encode = x .encode; twoStopbits = x .twoStopbits; omit = x .omit ++ bs; lfext = x .lfext } in
+    by-cases Holds (leb (length (x .omit ++ bs)) omitLimit) (going (withSettings st y)) (stop TooManyOmits row)
+    (λ e.
+    settings-on row st i y
+    (record { encode = i .settings .encode; omit = all-append isByte (x .omit) bs (i .settings .omit) h; omitted = leb-true (length (x .omit ++ bs)) omitLimit e; lfext = i .settings .lfext })
+    (omega (arith, settings-length y, settings-length x, omit-one (x .omit ++ bs))))
+    (λ e. tt)
+take-on row st (setLfext e) i h =
+    let x : Settings = st .settings in
+    let y : Settings = record { encode = x .encode; twoStopbits = x .twoStopbits; omit = x .omit; lfext = e } in
+    settings-on row st i y
+    (record { encode = i .settings .encode; omit = i .settings .omit; omitted = i .settings .omitted; lfext = h })
+    (omega (arith, settings-length y, settings-length x, lfext-one e))
+take-on row st (fault n) i h = tt
+
+-- ---- a line
+
+pub line-on : (row : ℕ) (st : Draft) (l : List ℕ) → all inLine l ≡ true → Sound 0 st → Holds (takeLine row st l)
+unfolding takeLine takeCounted
+line-on row st l p i =
+    by-cases Holds (ltb lineLimit (length l)) (stop LineTooLong row) _ (λ e. tt)
+    (λ e. by-cases Holds (isComment (meaning l)) (going st) _ (λ e₁. i)
+    (λ e₁. by-cases Holds (ltb (st .counted) linesLimit) _ (stop TooManyLines row)
+    (λ e₂. take-on row (countLine st) (meaning l) (counted-on st i (ltb-true (st .counted) linesLimit e₂)) (meaning-right l (ltb-false lineLimit (length l) e) p))
+    (λ e₂. tt)))
+
+pub start-sound : Sound 0 start
+unfolding start default allRight dataIn nextsIn needs settingLines encodeLines same encodeRight extension isCapital
+start-sound =
+    record {
+      settings = record { encode = refl; omit = refl; omitted = omega arith; lfext = refl };
+      rights = refl;
+      used = refl;
+      bytes = omega arith;
+      nested = λ rest. refl;
+      count = refl;
+      few = omega arith;
+      lines = omega arith;
+      counted = omega arith;
+    }
