@@ -1,0 +1,71 @@
+-- A box that is called: its state and its counts, what a call does to them, and what it is answered.
+use Prim.Native.Nat.{ℕ}
+use mathlib.Core.Bool.{Bool, cond}
+use mathlib.Core.List.{List, [], _∷_}
+use Rattle.language.specs.declared.Table.{Table}
+use Rattle.runner.specs.declared.Reading.{Reading}
+use Rattle.runner.specs.declared.State.{State}
+use Rattle.runner.specs.declared.Taken.{Taken}
+use Rattle.runner.specs.declared.Received.{Received}
+use Rattle.runner.specs.declared.Outcome.{Outcome}
+use Rattle.runner.specs.declared.Event.{Event}
+use Rattle.runner.specs.declared.ByteEvent.{ByteEvent}
+use Rattle.runner.specs.Events.{took, refused, tickEvent, readingEvent, levelEvent, byteEvent}
+use Rattle.runner.specs.declared.Refusal.the-variants.{BadTable}
+use Rattle.runner.specs.Draining.{does, writes, drained, countsAfter}
+use Rattle.runner.specs.Starting.{startState, noCounts}
+
+pub record Box : Type 0 where
+  pub state : State
+  pub counts : List ℕ
+
+-- a start; the four events; a drain with a buffer of so many bytes
+pub data Call : Type 0 where
+  start tick : Call
+  byte : ℕ → Call
+  reading : Reading → Call
+  level : ℕ → Bool → Call
+  drain : ℕ → Call
+
+-- what a call is answered; of a drain also the bytes that it wrote
+pub data Reply : Type 0 where
+  event : Taken → Reply
+  received : Received → Reply
+  outcome : Outcome → List ℕ → Reply
+
+pub record Called : Type 0 where
+  pub box : Box
+  pub reply : Reply
+
+abbrev pub boxed : State → List ℕ → Box
+boxed s counts = record { state = s; counts = counts }
+
+abbrev pub answeredBy : List ℕ → Event → Called
+answeredBy counts e = record { box = boxed (e .state) counts; reply = event (e .answer) }
+
+abbrev pub receivedBy : List ℕ → ByteEvent → Called
+receivedBy counts e = record { box = boxed (e .state) counts; reply = received (e .answer) }
+
+-- `right` tells whether some accepted script has the table: "Start is given a state too and hands it back with 25"
+module _ (right : Table → Bool) where
+  unfoldable pub startCall : Table → Box → Called
+  startCall t b = cond (right t) (answeredBy noCounts (took (startState (t .heads)))) (answeredBy (b .counts) (refused (b .state) BadTable))
+
+  unfoldable pub called : Table → Call → Box → Called
+  called t start b = startCall t b
+  called t tick b = answeredBy (b .counts) (tickEvent (b .state))
+  called t (byte x) b = receivedBy (b .counts) (byteEvent (t .pool) (t .heads) (b .state) x)
+  called t (reading r) b = answeredBy (b .counts) (readingEvent (b .state) r)
+  called t (level n on) b = answeredBy (b .counts) (levelEvent (b .state) n on)
+  called t (drain room) b =
+      record {
+        box = boxed (drained (t .cells) (t .pool) (b .state) (b .counts) room .state) (countsAfter (t .cells) (b .state) (b .counts) room);
+        reply =
+            outcome (drained (t .cells) (t .pool) (b .state) (b .counts) room .outcome)
+            (cond (does (t .cells) (b .state) room) (writes (t .cells) (t .pool) (b .state) (b .counts)) []);
+      }
+
+  -- the replies to some calls, one after the other, the table and what is handed back handed on unaltered
+  unfoldable pub replies : Table → Box → List Call → List Reply
+  replies t b [] = []
+  replies t b (q ∷ qs) = called t q b .reply ∷ replies t (called t q b .box) qs

@@ -1,0 +1,161 @@
+-- The drain. "A drain does one statement of the lowest-numbered ready process and says what it sent, recorded or switched; or says
+-- quiet exactly when none is ready."
+use Prim.Native.Nat.{ℕ, suc}
+use mathlib.Core.Bool.{Bool, true, false, cond}
+use mathlib.Core.List.{List, [], _∷_}
+use lib.ListN.{length, getD, set, replicate}
+use lib.Seq as seq
+use lib.Dec.{ltb}
+use Rattle.language.specs.declared.Span.{Span}
+use Rattle.language.specs.declared.Cell.{Cell}
+use Rattle.language.specs.declared.Cell.the-variants as cell
+use Rattle.language.specs.Limits.{loopLimit, processLimit}
+use Rattle.language.specs.Table.{dataAt}
+use Rattle.runner.specs.declared.Reading.{Reading}
+use Rattle.runner.specs.declared.Wait.the-variants.{Over}
+use Rattle.runner.specs.declared.Process.{Process}
+use Rattle.runner.specs.declared.State.{State}
+use Rattle.runner.specs.declared.Refusal.{Refusal}
+use Rattle.runner.specs.declared.Refusal.the-variants.{SmallBuffer, BadTable}
+use Rattle.runner.specs.declared.Outcome.{Outcome}
+use Rattle.runner.specs.declared.Outcome.the-variants.{Quiet, Sent, Recorded, Rts, Fchange, Pause, Resume, Plain, Refused}
+use Rattle.runner.specs.declared.Drained.{Drained}
+use Rattle.runner.specs.declared.Moved.{Moved}
+use Rattle.runner.specs.Waiting.{ready}
+use Rattle.runner.specs.Moving.{moved, cellAt}
+use Rattle.runner.specs.Logging.{recordOf, nextCount}
+
+-- the number, from 0, of the first process that is ready; their number where none is
+unfoldable pub lowest : List Process → ℕ
+lowest [] = 0
+lowest (p ∷ ps) = cond (ready p) 0 (suc (lowest ps))
+
+-- what stands where there is no process
+abbrev pub nobody : Process
+nobody = record { place = 0; end = 0; depth = 0; left = replicate loopLimit 0; back = replicate loopLimit 0; wait = Over }
+
+-- the process whose turn it is
+abbrev pub turn : State → Process
+turn s = getD (s .processes) (lowest (s .processes)) nobody
+
+-- ---- what a statement says, and what it writes
+
+-- the bytes that it sends or records
+unfoldable pub bytesOf : List ℕ → Reading → ℕ → Cell → List ℕ
+bytesOf pool r count cell.Nothing = []
+bytesOf pool r count (cell.Send s) = dataAt pool s
+bytesOf pool r count (cell.Loop n) = []
+bytesOf pool r count cell.End = []
+bytesOf pool r count (cell.WaitTime n) = []
+bytesOf pool r count (cell.WaitData s) = []
+bytesOf pool r count (cell.WaitByte n) = []
+bytesOf pool r count (cell.WaitClock c) = []
+bytesOf pool r count (cell.WaitSignal l) = []
+bytesOf pool r count (cell.Rts on) = []
+bytesOf pool r count (cell.Log s) = recordOf r count (dataAt pool s)
+bytesOf pool r count cell.Fchange = []
+bytesOf pool r count cell.Pause = []
+bytesOf pool r count cell.Resume = []
+bytesOf pool r count cell.Nop = []
+bytesOf pool r count cell.Unknown = []
+
+-- what it says, n bytes being written
+unfoldable pub outcomeOf : ℕ → Cell → Outcome
+outcomeOf n cell.Nothing = Plain
+outcomeOf n (cell.Send s) = Sent (record { bytes = n })
+outcomeOf n (cell.Loop k) = Plain
+outcomeOf n cell.End = Plain
+outcomeOf n (cell.WaitTime k) = Plain
+outcomeOf n (cell.WaitData s) = Plain
+outcomeOf n (cell.WaitByte k) = Plain
+outcomeOf n (cell.WaitClock c) = Plain
+outcomeOf n (cell.WaitSignal l) = Plain
+outcomeOf n (cell.Rts on) = Rts (record { on = on })
+outcomeOf n (cell.Log s) = Recorded (record { bytes = n })
+outcomeOf n cell.Fchange = Fchange
+outcomeOf n cell.Pause = Pause
+outcomeOf n cell.Resume = Resume
+outcomeOf n cell.Nop = Plain
+outcomeOf n cell.Unknown = Plain
+
+-- "PAUSE and RESUME act from the next byte"
+unfoldable pub pausedBy : Bool → Cell → Bool
+pausedBy paused cell.Nothing = paused
+pausedBy paused (cell.Send s) = paused
+pausedBy paused (cell.Loop n) = paused
+pausedBy paused cell.End = paused
+pausedBy paused (cell.WaitTime n) = paused
+pausedBy paused (cell.WaitData s) = paused
+pausedBy paused (cell.WaitByte n) = paused
+pausedBy paused (cell.WaitClock c) = paused
+pausedBy paused (cell.WaitSignal l) = paused
+pausedBy paused (cell.Rts on) = paused
+pausedBy paused (cell.Log s) = paused
+pausedBy paused cell.Fchange = paused
+pausedBy paused cell.Pause = true
+pausedBy paused cell.Resume = false
+pausedBy paused cell.Nop = paused
+pausedBy paused cell.Unknown = paused
+
+-- "Each LOG statement has its own `@c`"
+unfoldable pub countedBy : ℕ → Cell → ℕ
+countedBy n cell.Nothing = n
+countedBy n (cell.Send s) = n
+countedBy n (cell.Loop k) = n
+countedBy n cell.End = n
+countedBy n (cell.WaitTime k) = n
+countedBy n (cell.WaitData s) = n
+countedBy n (cell.WaitByte k) = n
+countedBy n (cell.WaitClock c) = n
+countedBy n (cell.WaitSignal l) = n
+countedBy n (cell.Rts on) = n
+countedBy n (cell.Log s) = nextCount n
+countedBy n cell.Fchange = n
+countedBy n cell.Pause = n
+countedBy n cell.Resume = n
+countedBy n cell.Nop = n
+countedBy n cell.Unknown = n
+
+-- ---- the drain
+
+-- the drain does a statement: one is ready, found within the table, and the buffer has 128 bytes
+unfoldable pub does : List ℕ → State → ℕ → Bool
+does cells s room = cond (ltb (lowest (s .processes)) processLimit) (cond (moved cells (s .levels) (turn s) .found) (ltb 127 room) false) false
+
+-- what the statement writes
+unfoldable pub writes : List ℕ → List ℕ → State → List ℕ → List ℕ
+writes cells pool s counts = bytesOf pool (s .reading) (getD counts (turn s .place) 0) (cellAt cells (turn s))
+
+-- the state after the statement
+unfoldable pub stateAfter : List ℕ → State → State
+stateAfter cells s =
+    record {
+      processes = set (s .processes) (lowest (s .processes)) (moved cells (s .levels) (turn s) .process);
+      reading = s .reading;
+      levels = s .levels;
+      paused = pausedBy (s .paused) (cellAt cells (turn s));
+    }
+
+abbrev pub unaltered : State → Outcome → Drained
+unaltered s o = record { state = s; outcome = o }
+
+-- "drain buffer under 128 bytes" 24; "a quiet drain with a small buffer is 24"
+unfoldable pub drained : List ℕ → List ℕ → State → List ℕ → ℕ → Drained
+drained cells pool s counts room =
+    cond (ltb (lowest (s .processes)) processLimit)
+    (cond (moved cells (s .levels) (turn s) .found)
+    (cond (ltb 127 room)
+    (record { state = stateAfter cells s; outcome = outcomeOf (length (writes cells pool s counts)) (cellAt cells (turn s)) })
+    (unaltered s (Refused SmallBuffer)))
+    (unaltered s (Refused BadTable)))
+    (cond (ltb 127 room) (unaltered s Quiet) (unaltered s (Refused SmallBuffer)))
+
+-- the lent buffer and the lent counts after the drain
+unfoldable pub bufferAfter : List ℕ → List ℕ → State → List ℕ → List ℕ → List ℕ
+bufferAfter cells pool s counts out = cond (does cells s (length out)) (seq.sets out 0 (writes cells pool s counts)) out
+
+unfoldable pub countsAfter : List ℕ → State → List ℕ → ℕ → List ℕ
+countsAfter cells s counts room =
+    cond (does cells s room)
+    (set counts (turn s .place) (countedBy (getD counts (turn s .place) 0) (cellAt cells (turn s))))
+    counts

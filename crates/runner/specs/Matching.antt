@@ -1,0 +1,23 @@
+-- "WAIT DATA ends when the last bytes received since it began equal its data": what has been matched, and what one more byte makes of it.
+use Prim.Native.Nat.{ℕ, zero, suc, _-_}
+use mathlib.Core.Bool.{cond}
+use mathlib.Core.List.{List, [], _∷_, _++_}
+use lib.ListN.{length, take, drop}
+use Rattle.reader.specs.Bytes.{same}
+
+-- the last j bytes
+abbrev pub last : ℕ → List ℕ → List ℕ
+last j xs = drop (length xs - j) xs
+
+-- the largest number up to n such that so many bytes of d, from its first, are the last bytes of xs
+abbrev pub longest : List ℕ → List ℕ → ℕ → ℕ
+longest d xs zero = zero
+longest d xs (suc n) = cond (same (take (suc n) d) (last (suc n) xs)) (suc n) (longest d xs n)
+
+-- how many bytes of the data d, from its first, are the last bytes received
+unfoldable pub progress : List ℕ → List ℕ → ℕ
+progress d xs = longest d xs (length xs)
+
+-- the bytes matched after b, where k were before it: what is known of the bytes received is that they end in those and b
+unfoldable pub advance : List ℕ → ℕ → ℕ → ℕ
+advance d k b = progress d (take k d ++ (b ∷ []))

@@ -1,0 +1,35 @@
+-- The start. "Start makes every process with statements ready"; "Levels start off"; "000101000000 (yymmddhhmmss) before any".
+use Prim.Native.Nat.{ℕ, zero, suc, _+_}
+use mathlib.Core.Bool.{Bool, true, false, cond}
+use mathlib.Core.List.{List, [], _∷_}
+use lib.ListN.{getD, replicate}
+use lib.Dec.{ltb}
+use Rattle.language.specs.declared.Heads.{Heads}
+use Rattle.language.specs.Limits.{linesLimit, loopLimit, processLimit}
+use Rattle.runner.specs.declared.Reading.{Reading}
+use Rattle.runner.specs.declared.Process.{Process}
+use Rattle.runner.specs.declared.State.{State}
+use Rattle.runner.specs.Waiting.{awake}
+
+abbrev pub startAt : ℕ → ℕ → Process
+startAt first end =
+    record { place = first; end = end; depth = 0; left = replicate loopLimit 0; back = replicate loopLimit 0; wait = awake first end }
+
+-- process i begins behind the one before it; one that the table does not have is over
+unfoldable pub started : Heads → ℕ → Process
+started h i = cond (ltb i (h .processes)) (startAt (getD (0 ∷ h .ends) i 0) (getD (h .ends) i 0)) (startAt 0 0)
+
+-- so many processes from i on
+unfoldable pub startedFrom : Heads → ℕ → ℕ → List Process
+startedFrom h i zero = []
+startedFrom h i (suc n) = started h i ∷ startedFrom h (i + 1) n
+
+abbrev pub noReading : Reading
+noReading = record { year = 0; month = 1; day = 1; hour = 0; minute = 0; second = 0 }
+
+unfoldable pub startState : Heads → State
+startState h = record { processes = startedFrom h 0 processLimit; reading = noReading; levels = replicate 5 false; paused = false }
+
+-- "from 0": the counts of all LOG statements
+abbrev pub noCounts : List ℕ
+noCounts = replicate linesLimit 0
