@@ -1,0 +1,1 @@
+// The exact test whether some accepted script has a table.
