@@ -1,1 +1,3 @@
 pub mod Exactly
+pub mod Walk
+pub mod Bodies

@@ -42,7 +42,7 @@ units-back (d ∷ o ∷ m ∷ s ∷ more) h =
     let e = both-right (within (range 0 59) m) _ b in
     rw (no-more more (both-right (within (range 0 59) s) _ e))
 
-both-map : (a b c : Bool) → (b ≡ true → c ≡ true) → (a && b) ≡ true → (a && c) ≡ true
+pub both-map : (a b c : Bool) → (b ≡ true → c ≡ true) → (a && b) ≡ true → (a && c) ≡ true
 both-map a b c f h = both a c (both-left a b h) (f (both-right a b h))
 
 fixed-right : (vs : List ℕ) → clockRight vs ≡ true → fixedRight (clockFrom vs) ≡ true
