@@ -35,15 +35,15 @@ flag-same true = refl
 flag-same false = refl
 
 -- heads and a table from their parts: equal parts make equal wholes
-abbrev headsOf : ℕ → List ℕ → ℕ → Bool → ℕ → Bool → ℕ → List ℕ → List ℕ → Heads
-headsOf p es u c b two n o x =
+abbrev pub madeHeads : ℕ → List ℕ → ℕ → Bool → ℕ → Bool → ℕ → List ℕ → List ℕ → Heads
+madeHeads p es u c b two n o x =
     record { processes = p; ends = es; used = u; encodes = c; encode = b; «two_stop_bits» = two; omits = n; omit = o; extension = x }
 
-heads-equal : {p p′ u u′ b b′ n n′ : ℕ} {es es′ o o′ x x′ : List ℕ} {c c′ two two′ : Bool} → p ≡ p′ → es ≡ es′ → u ≡ u′ → c ≡ c′ → b ≡ b′ → two ≡ two′
-    → n ≡ n′ → o ≡ o′ → x ≡ x′ → headsOf p es u c b two n o x ≡ headsOf p′ es′ u′ c′ b′ two′ n′ o′ x′
+pub heads-equal : {p p′ u u′ b b′ n n′ : ℕ} {es es′ o o′ x x′ : List ℕ} {c c′ two two′ : Bool} → p ≡ p′ → es ≡ es′ → u ≡ u′ → c ≡ c′ → b ≡ b′ → two ≡ two′
+    → n ≡ n′ → o ≡ o′ → x ≡ x′ → madeHeads p es u c b two n o x ≡ madeHeads p′ es′ u′ c′ b′ two′ n′ o′ x′
 heads-equal e0 e1 e2 e3 e4 e5 e6 e7 e8 = cc
 
-tables-equal : {ws ws′ pool pool′ : List ℕ} {h h′ : Heads} → ws ≡ ws′ → pool ≡ pool′ → h ≡ h′
+pub tables-equal : {ws ws′ pool pool′ : List ℕ} {h h′ : Heads} → ws ≡ ws′ → pool ≡ pool′ → h ≡ h′
     → _≡_ {A = Table} (record { cells = ws; pool = pool; heads = h }) (record { cells = ws′; pool = pool′; heads = h′ })
 tables-equal e0 e1 e2 = cc
 

@@ -1,3 +1,4 @@
 pub mod Exactly
 pub mod Walk
 pub mod Bodies
+pub mod Laying
