@@ -5,8 +5,8 @@ use mathlib.Core.Bool.{Bool, true, false, cond, _&&_, not}
 use mathlib.Core.List.{List, [], _∷_, _++_, append-assoc}
 use native.Mathlib.Omega.{arith}
 use lib.Dec.{ltb, leb, eqb}
-use lib.ListN.{length, take, drop, replicate, length-append, length-take, length-drop, take-append-drop}
-use lib.Seq.{length-take-le, take-all}
+use lib.ListN.{length, getD, take, drop, replicate, length-append, length-take, length-drop, take-append-drop}
+use lib.Seq.{length-take-le, getD-take}
 use borrow.Author.Tests.{leb-true, eqb-true, eqb-false}
 use Rattle.reader.proofs.Tests.{both-left, both-right, both, true-is-false}
 use Rattle.language.specs.declared.Heads.{Heads}
@@ -14,10 +14,12 @@ use Rattle.language.specs.declared.Table.{Table}
 use Rattle.language.specs.Limits.{linesLimit, dataLimit, omitLimit, processLimit}
 use Rattle.language.specs.Script.{Encode, unset, byte, Settings, Item, Script}
 use Rattle.language.specs.Meaning.{extension}
+use Rattle.language.specs.Listing.{listedLines}
 use Rattle.language.specs.Table.{padded, wordsFrom, poolOf, endsFrom, encodes, encodeByteOf, headsOf, laidOut, bodyFrom, lettersOf, settingsOf, scriptOf}
-use Rattle.accepted.specs.Tests.{zeros, wordsFit, wordsEnd, rising, lastEnd, endsOf, inUse, endsRight, cellsRight, settingsFit}
+use Rattle.accepted.specs.Tests.{zeros, wordsFit, wordsEnd, rising, lastEnd, endsOf, inUse, endsRight, cellsRight, settingsFit, firstEmpty, settingsIn, linesIn}
 use Rattle.accepted.proofs.Exactly.{heads-equal, tables-equal}
 use Rattle.accepted.proofs.Bodies.{Body, body}
+use Rattle.accepted.proofs.Counting.{settings-length, items-count, ends-count, lines-count}
 
 -- ---- zeros behind a list
 
@@ -173,3 +175,19 @@ module _ (t : Table) (ty : Typed t) where
     pub laid : settingsFit h ≡ true → laidOut (scriptOf t) ≡ t
     unfolding laidOut
     laid sf = tables-equal laid-cells laid-pool (laid-heads sf)
+
+    pub lines-are : settingsFit h ≡ true → length (listedLines (scriptOf t)) ≡ linesIn h
+    unfolding linesIn settingsIn firstEmpty
+    lines-are sf =
+        lines-count (scriptOf t)
+        ∙ rw (settings-length (scriptOf t .settings))
+        (unfold scriptOf settingsOf settingsFit in
+        let s₁ = both-right (cond (h .encodes) true (eqb (h .encode) 0)) _ sf in
+        let few : h .omits ≤ omitLimit = leb-true (h .omits) omitLimit (both-left (leb (h .omits) omitLimit) _ s₁) in
+        let first : getD (endsOf h) 0 0 ≡ getD (h .ends) 0 0 = getD-take (h .processes) (h .ends) 0 0 processes-some in
+        let cells : length (take (inUse h) (t .cells)) ≡ inUse h = length-take-le (inUse h) (t .cells) (omega (arith, ty .cells, last-few (endsOf h) 0 ends-rise (omega arith))) in
+        let b : List Item = bodyFrom (t .pool) (t .cells) 0 (endsOf h) in
+        let items : length b ≡ inUse h + (h .processes - 1) =
+        omega (arith, items-count b 0, ap length (whole .walk .words), cells, ends-count b 0, ap length (whole .ends), ends-long)
+        in
+        rw (encode-flag (h .encodes) (h .encode), length-take-le (h .omits) (h .omit) (omega (arith, ty .omit)), whole .ends, ends-long, first, items))

@@ -1,4 +1,6 @@
 pub mod Exactly
 pub mod Walk
 pub mod Bodies
+pub mod Counting
 pub mod Laying
+pub mod Laid

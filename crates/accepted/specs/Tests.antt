@@ -121,3 +121,7 @@ settingsIn h =
 
 unfoldable pub linesIn : Heads → ℕ
 linesIn h = settingsIn h + (one (firstEmpty h) + (inUse h + (h .processes - 1)))
+
+-- all but the nesting and the stretch
+unfoldable pub fits : List ℕ → List ℕ → Heads → Bool
+fits cells pool h = endsRight h && (cellsRight cells pool h && (settingsFit h && leb (linesIn h) linesLimit))

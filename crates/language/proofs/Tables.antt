@@ -227,7 +227,7 @@ letters-of s h =
     let c = both-right (leb (length (s .omit)) omitLimit) _ b in
     both-right (ltb 0 (length (s .lfext)) && leb (length (s .lfext)) 3) _ c
 
-settings-back : (s : Script) → settingsRight (s .settings) ≡ true → settingsOf (headsOf s) ≡ s .settings
+pub settings-back : (s : Script) → settingsRight (s .settings) ≡ true → settingsOf (headsOf s) ≡ s .settings
 unfolding settingsOf headsOf
 settings-back s h =
     rw (
