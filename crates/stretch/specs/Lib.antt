@@ -1,0 +1,4 @@
+pub mod Marks
+pub mod Measured
+pub mod Reported
+pub mod Scan
