@@ -7,6 +7,7 @@ use denote.Ref.{now}
 use borrow.Author.Needs.{needs}
 use borrow.Fn.Kinds.{In}
 use borrow.Fn.PlainCycle.{Measures, is, falls, and}
+use Rattle.figures.specs.Flat.{opens}
 use Rattle.figures.specs.Scan.{Stands}
 use Rattle.figures.proofs.Calls.{free}
 use Rattle.figures.proofs.Scanning.{Going, scan-starts, scan-past, scan-closes, scan-plain, scan-rest, scan-deeper, scan-enters, scan-opens, scan-passes}
@@ -72,7 +73,7 @@ module _ (t : ℕ) where
   body-run c κs = let p = c .pre .1 in (omega (arith, c .pre .0, p .deeper), record { inside = p .inside; scannable = p .scannable })
 
   body-returns : body-lts.Need-returns (body-calls t) (body-at t) body.Post
-  body-returns c = ?
+  body-returns c = rw (c .passes .ensures) (scan-passes _ (c .before .before .run-figures .ensures))
 
   run-holds : run-lts.Need-loop-holds (run-calls t) (run-at t) run.Post Inv-loop μ-loop
   run-holds c = rw (c .nothing .ensures) (scan-starts _ _ _ (c .before .pre .1 .scannable))
@@ -114,17 +115,36 @@ module _ (t : ℕ) where
   run-known : run-lts.Need-enum-known-role (run-calls t) (run-at t) run.Post Inv-loop μ-loop
   run-known c = search needs
 
+  -- the LOOP that stands where a body is entered
+  loops : (c : run-lts.After-join3 (run-calls t) (run-at t) run.Post Inv-loop μ-loop)
+      → Stands (marksTo (now (c .before .before .before .before .before .before .before .before .before .before .args .cells)) (c .before .before .before .before .before .before .before .before .before .before .args .end)) (c .before .before .before .before .before .before .before .before .loop .i) (opens (c .before .before .before .role .given .0 .0))
+  loops c = let g = c .before .before .before .role .given in read (c .before .before .before .before .before) (Loop (g .0 .0)) (g .1)
+
   run-add-body : run-lts.Need-add-body-figures (run-calls t) (run-at t) run.Post Inv-loop μ-loop
   run-add-body c = omega arith
 
   run-body : run-lts.Need-body-figures-requires (run-calls t) (run-at t) run.Post Inv-loop μ-loop
-  run-body c κs = ?
+  run-body c κs =
+      let d = c .before .before .before .before .before in
+      let p = d .before .before .before .before .before .pre in
+      let s = loops c in (
+        omega (arith, p .0),
+        record { inside = p .1 .inside; deeper = scan-deeper _ _ _ _ _ (d .before .before .before .loop .inv) _ s; scannable = scan-enters _ _ _ _ _ (d .before .before .before .loop .inv) _ s },
+      )
 
   run-less-3 : run-lts.Need-loop-less-3 (run-calls t) (run-at t) run.Post Inv-loop μ-loop
-  run-less-3 c = ?
+  run-less-3 c =
+      let e = c .before .before .body-figures .ensures in
+      let d = c .before .before .before .before .before .before .before .before in
+      let s = d .before .before .before .before .before in
+      omega (arith, e .low, e .high, marks-length (now (s .args .cells)) (s .args .end) (s .pre .1 .inside), d .before .before .loop-test .taken)
 
   run-again-3 : run-lts.Need-loop-again-3 (run-calls t) (run-at t) run.Post Inv-loop μ-loop
-  run-again-3 c = ?
+  run-again-3 c =
+      let e = c .before .before .before in
+      let d = e .before .before .before .before .before in
+      rw (c .join4 .ensures, e .join3 .ensures, e .before .plain2 .ensures)
+      (scan-opens _ _ _ _ _ (d .before .before .before .loop .inv) _ (loops e) _ _ (c .before .before .body-figures .ensures))
 
   run-told-3 : run-lts.Need-enum-told-3 (run-calls t) (run-at t) run.Post Inv-loop μ-loop
   run-told-3 c = search needs
