@@ -1,1 +1,3 @@
 pub mod Marking
+pub mod Measuring
+pub mod Reports
