@@ -1,3 +1,6 @@
 pub mod Marking
 pub mod Measuring
 pub mod Reports
+pub mod Scripts
+pub mod Verdicts
+pub mod Places

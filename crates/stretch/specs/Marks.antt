@@ -1,7 +1,7 @@
 -- The processes of a table, each as the marks of its cells. Assumes nothing: these are definitions.
 use mathlib.Core.List.{List, [], _∷_, map}
 use Prim.Native.Nat.{ℕ}
-use lib.ListN.{take}
+use lib.ListN.{getD, take}
 use lib.Seq.{slice}
 use Rattle.figures.specs.Flat.{Mark, plain, sureRest, opens, closes}
 use Rattle.language.specs.declared.Cell.{Cell}
@@ -32,6 +32,13 @@ processesFrom cells from (end ∷ ends) = marksBetween cells from end ∷ proces
 -- the processes of a table
 unfoldable pub processesOf : List ℕ → Heads → List (List Mark)
 processesOf cells heads = processesFrom cells 0 (take (heads .processes) (heads .ends))
+
+-- the place where the process behind i others begins, and the one where it stops
+abbrev pub begins : Heads → ℕ → ℕ
+begins heads i = getD (0 ∷ heads .ends) i 0
+
+abbrev pub stops : Heads → ℕ → ℕ
+stops heads i = getD (heads .ends) i 0
 
 -- the mark that the code's `Role` stands for
 abbrev pub marked : Role → Mark
