@@ -1,5 +1,6 @@
 // What a line means, read in code: the statement or setting that it says, with its data in a lent buffer.
-use language::{Cell, Fault};
+use language::Cell;
+use language::Fault;
 
 // "At most 127 per line": a lent buffer of this many bytes holds the data of any line.
 pub const ROOM: usize = 128;

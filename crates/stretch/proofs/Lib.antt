@@ -4,3 +4,4 @@ pub mod Reports
 pub mod Scripts
 pub mod Verdicts
 pub mod Places
+pub mod Cases

@@ -10,7 +10,7 @@ use Rattle.stretch.specs.declared.Measured.the-variants.{Largest}
 use Rattle.stretch.specs.Marks.{marksBetween, processesFrom, processesOf, begins, stops}
 use Rattle.stretch.specs.Measured.{measuredFrom, measured}
 use Rattle.stretch.specs.Reported.{process, Within, Says}
-use Rattle.stretch.proofs.Reports.{says-measured}
+use Rattle.stretch.proofs.Reports.{measured-reported}
 
 length-processes : (cells : List ℕ) (from : ℕ) (es : List ℕ) → length (processesFrom cells from es) ≡ length es
 unfolding processesFrom
@@ -42,4 +42,4 @@ module _ (cells : List ℕ) (heads : Heads) (i : ℕ) (h : i < heads .processes)
   -- its loops nest, and its stretch is at most k
   pub measured-each : {k : ℕ} → measured cells heads ≡ Largest k → Within (marksBetween cells (begins heads i) (stops heads i)) k
   unfolding Says
-  measured-each e = rw process-between at (subst (Says (processesOf cells heads)) e (says-measured (processesOf cells heads)) .each i inside)
+  measured-each e = rw process-between at (subst (Says (processesOf cells heads)) e (measured-reported cells heads) .each i inside)

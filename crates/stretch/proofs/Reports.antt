@@ -1,6 +1,6 @@
 -- What is answered of a table is right, and nothing else is. Assumes nothing.
 use mathlib.Core.Path.{_≡_, refl, ap, sym, _∙_}
-use mathlib.Core.Bool.{Bool, true, false, cond, true≢false}
+use mathlib.Core.Bool.{true, false, true≢false}
 use mathlib.Core.List.{List, [], _∷_}
 use mathlib.Core.Logic.{_⊎_, inl, inr, ⊎-elim}
 use Prim.Native.Nat.{ℕ, _+_, _≤_, _<_, max}
@@ -9,22 +9,24 @@ use native.Mathlib.Nat.{le-antisymm}
 use native.Mathlib.Numerals.{add-one}
 use native.Mathlib.Omega.{arith}
 use lib.Dec.{leb}
-use lib.ListN.{length, getD, drop, length-drop}
+use lib.ListN.{length, drop, length-drop}
 use lib.Seq.{drop-cons}
 use borrow.Author.Tests.{leb-true, leb-false}
 use Rattle.reader.proofs.Tests.{by-cases}
 use Rattle.figures.specs.Flat.{Mark, fragment, nests}
 use Rattle.figures.specs.Stretch as figures
-use Rattle.figures.specs.Stretch.{limit, Stretch}
+use Rattle.figures.specs.Stretch.{limit}
 use Rattle.figures.proofs.Stretches.{stretch-is, over-is, one-stretch, over-less}
+use Rattle.language.specs.declared.Heads.{Heads}
 use Rattle.stretch.specs.declared.Measured.{Measured}
 use Rattle.stretch.specs.declared.Measured.the-variants.{Largest, Over, Broken}
-use Rattle.stretch.specs.Measured.{stretchIn, measuredFrom}
-use Rattle.stretch.specs.Reported.{process, Fits, Within, Reached, Most, Exceeds, Breaks, Says}
+use Rattle.stretch.specs.Marks.{processesOf}
+use Rattle.stretch.specs.Measured.{stretchIn, measuredFrom, measured}
+use Rattle.stretch.specs.Reported.{process, Fits, Within, Reached, Most, Exceeds, Breaks, Says, Reported}
 
 -- ---- what is answered is right
 
--- a process that is left at most as it was
+-- a stretch that is at most j is at most k
 within-more : {p : List Mark} {j k : ℕ} → Within p j → j ≤ k → Within p k
 within-more w h = record { stretch = w .stretch; fits = w .fits; most = omega (arith, w .most) }
 
@@ -59,7 +61,7 @@ module _ (ps : List (List Mark)) where
   rest-left : (i : ℕ) (q : List Mark) (qs : List (List Mark)) → q ∷ qs ≡ drop i ps → q ∷ qs ≡ process ps i ∷ drop (i + 1) ps
   rest-left i q qs e = e ∙ drop-cons ps i [] (first-left i q qs e) ∙ rw (add-one i)
 
-  pub says-from : (qs : List (List Mark)) (i best : ℕ) → qs ≡ drop i ps → i ≤ length ps → best ≤ limit → Most ps i best
+  says-from : (qs : List (List Mark)) (i best : ℕ) → qs ≡ drop i ps → i ≤ length ps → best ≤ limit → Most ps i best
       → Says ps (measuredFrom (i + 1) best qs)
   unfolding measuredFrom Says
   says-from [] i best e h l m = let n : i ≡ length ps = omega (arith, length-drop i ps, ap length e) in rw n at m
@@ -100,10 +102,10 @@ module _ (ps : List (List Mark)) where
 
   -- no process before one that exceeds or breaks exceeds or breaks
   over-late : (i j : ℕ) → ((n : ℕ) → n < j → Within (process ps n) limit) → figures.Over (fragment (process ps i)) limit → j ≤ i
-  over-late i j earlier o = elim (decLt i j) [ | yes h ↦ absurd (not-both (earlier i h) o) | no h ↦ omega arith ]
+  over-late i j earlier o = elim (decLt i j) [ yes h ↦ absurd (not-both (earlier i h) o) | no h ↦ omega arith ]
 
   breaks-late : (i j : ℕ) → ((n : ℕ) → n < j → Within (process ps n) limit) → nests 0 (process ps i) ≡ false → j ≤ i
-  breaks-late i j earlier s = elim (decLt i j) [ | yes h ↦ absurd (nests-both (earlier i h) s) | no h ↦ omega arith ]
+  breaks-late i j earlier s = elim (decLt i j) [ yes h ↦ absurd (nests-both (earlier i h) s) | no h ↦ omega arith ]
 
   over-breaks : (n : ℕ) → Exceeds ps n → Breaks ps → ⊥
   over-breaks n s t =
@@ -125,3 +127,12 @@ module _ (ps : List (List Mark)) where
   one-report Broken (Largest k) s t = absurd (nests-both (t .each (s .place) (s .inside)) (s .strays))
   one-report Broken (Over m) s t = absurd (over-breaks m t s)
   one-report Broken Broken s t = refl
+
+-- ---- of a table
+
+module _ (cells : List ℕ) (heads : Heads) where
+  pub measured-reported : Reported cells heads (measured cells heads)
+  measured-reported = says-measured (processesOf cells heads)
+
+  pub one-answer : (a b : Measured) → Reported cells heads a → Reported cells heads b → a ≡ b
+  one-answer = one-report (processesOf cells heads)

@@ -84,44 +84,20 @@ module _ (t : ℕ) where
   read c role e =
       stands-role _ _ (c .before .before .before .before .before .pre .1 .inside) _ (c .before .before .loop-test .taken) _ _ role (c .before .cell-at .ensures) (c .role-of .ensures) e
 
-  run-told : run-lts.Need-enum-told (run-calls t) (run-at t) run.Post Inv-loop μ-loop
-  run-told c = search needs
-
-  run-add-i : run-lts.Need-add-i (run-calls t) (run-at t) run.Post Inv-loop μ-loop
-  run-add-i c = omega arith
-
-  run-less : run-lts.Need-loop-less (run-calls t) (run-at t) run.Post Inv-loop μ-loop
-  run-less c = omega arith
-
   run-again : run-lts.Need-loop-again (run-calls t) (run-at t) run.Post Inv-loop μ-loop
   run-again c =
       let d = c .before .before .before .before in
       rw (c .join .ensures, c .before .plain .ensures) (scan-plain _ _ _ _ _ (d .before .before .before .loop .inv) (read d Other (c .before .before .enum-told .given .1)))
-
-  run-told-2 : run-lts.Need-enum-told-2 (run-calls t) (run-at t) run.Post Inv-loop μ-loop
-  run-told-2 c = search needs
-
-  run-add-i-2 : run-lts.Need-add-i-2 (run-calls t) (run-at t) run.Post Inv-loop μ-loop
-  run-add-i-2 c = omega arith
-
-  run-less-2 : run-lts.Need-loop-less-2 (run-calls t) (run-at t) run.Post Inv-loop μ-loop
-  run-less-2 c = omega arith
 
   run-again-2 : run-lts.Need-loop-again-2 (run-calls t) (run-at t) run.Post Inv-loop μ-loop
   run-again-2 c =
       let d = c .before .before .before .before in
       rw (c .join2 .ensures, c .before .sure-rest .ensures) (scan-rest _ _ _ _ _ (d .before .before .before .loop .inv) (read d SureRest (c .before .before .enum-told2 .given .1)))
 
-  run-known : run-lts.Need-enum-known-role (run-calls t) (run-at t) run.Post Inv-loop μ-loop
-  run-known c = search needs
-
   -- the LOOP that stands where a body is entered
   loops : (c : run-lts.After-join3 (run-calls t) (run-at t) run.Post Inv-loop μ-loop)
       → Stands (marksTo (now (c .before .before .before .before .before .before .before .before .before .before .args .cells)) (c .before .before .before .before .before .before .before .before .before .before .args .end)) (c .before .before .before .before .before .before .before .before .loop .i) (opens (c .before .before .before .role .given .0 .0))
   loops c = let g = c .before .before .before .role .given in read (c .before .before .before .before .before) (Loop (g .0 .0)) (g .1)
-
-  run-add-body : run-lts.Need-add-body-figures (run-calls t) (run-at t) run.Post Inv-loop μ-loop
-  run-add-body c = omega arith
 
   run-body : run-lts.Need-body-figures-requires (run-calls t) (run-at t) run.Post Inv-loop μ-loop
   run-body c κs =
@@ -146,12 +122,6 @@ module _ (t : ℕ) where
       rw (c .join4 .ensures, e .join3 .ensures, e .before .plain2 .ensures)
       (scan-opens _ _ _ _ _ (d .before .before .before .loop .inv) _ (loops e) _ _ (c .before .before .body-figures .ensures))
 
-  run-told-3 : run-lts.Need-enum-told-3 (run-calls t) (run-at t) run.Post Inv-loop μ-loop
-  run-told-3 c = search needs
-
-  run-add-end : run-lts.Need-add-t18 (run-calls t) (run-at t) run.Post Inv-loop μ-loop
-  run-add-end c = omega arith
-
   run-returns : run-lts.Need-returns (run-calls t) (run-at t) run.Post Inv-loop μ-loop
   run-returns c =
       let d = c .before .before in
@@ -167,6 +137,6 @@ pub +body-figures+run-figures-spec : {M : Type 1} → statement M
 +body-figures+run-figures-spec =
     close μ-body μ-run
     (λ t. body-lts.spec (body-calls t) (body-at t) body.Post (body-sub t) (body-run t) free (body-returns t))
-    (λ t. run-lts.spec (run-calls t) (run-at t) run.Post Inv-loop μ-loop free (run-holds t) free free (run-told t) free free (run-add-i t) (run-less t) (run-again t)
-    (run-told-2 t) free free (run-add-i-2 t) (run-less-2 t) (run-again-2 t) (run-known t) free free (run-add-body t) (run-body t) free (run-less-3 t) (run-again-3 t)
-    (run-told-3 t) (run-add-end t) (run-returns t) (run-returns-2 t))
+    (λ t. run-lts.spec (run-calls t) (run-at t) run.Post Inv-loop μ-loop free (run-holds t) free free (λ c. search needs) free free (λ c. omega arith) (λ c. omega arith) (run-again t)
+    (λ c. search needs) free free (λ c. omega arith) (λ c. omega arith) (run-again-2 t) (λ c. search needs) free free (λ c. omega arith) (run-body t) free (run-less-3 t) (run-again-3 t)
+    (λ c. search needs) (λ c. omega arith) (run-returns t) (run-returns-2 t))

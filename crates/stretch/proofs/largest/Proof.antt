@@ -6,7 +6,7 @@ use lib.ListN.{length}
 use borrow.Author.Needs.{needs}
 use Rattle.stretch.specs.Marks.{processesOf}
 use Rattle.stretch.specs.Measured.{measured}
-use Rattle.stretch.proofs.Reports.{says-measured}
+use Rattle.stretch.proofs.Reports.{measured-reported}
 use Rattle.stretch.proofs.largest.Statement.{statement}
 use Rattle.stretch.proofs.largest.Tie as tie
 
@@ -24,7 +24,7 @@ unfolding processesOf
 returns c =
     let a = c .before .before .before .before .args in
     let e : c .measure-all .result ≡ measured (now (a .cells)) (a .heads) = c .measure-all .ensures in
-    (e, rw e (says-measured (processesOf (now (a .cells)) (a .heads))))
+    (e, rw e (measured-reported (now (a .cells)) (a .heads)))
 
 pub largest-spec : {M : Type 1} → statement M
 largest-spec = tie.close (tie.spec slice-aggregate-measure-all cast-measure-all measure-all-requires returns)

@@ -16,30 +16,12 @@ abbrev μ-loop : tie.MeasureT-loop
 loop-holds : tie.Need-loop-holds Inv-loop μ-loop
 loop-holds c = measuring-starts _ _ _
 
-mul-place : tie.Need-mul-place Inv-loop μ-loop
-mul-place c = omega arith
-
-shared-slice-read-place : tie.Need-shared-slice-read-place Inv-loop μ-loop
-shared-slice-read-place c = omega arith
-
-enum-known-one : tie.Need-enum-known-one Inv-loop μ-loop
-enum-known-one c = search needs
-
 returns : tie.Need-returns Inv-loop μ-loop
 returns c =
     let o = c .before .before in
     let d = o .before .before in
     let l = d .before .before .before in
     measuring-over _ _ _ _ _ _ _ _ (l .before .loop .inv) (l .before .before .smaller .ensures) (l .loop-test .taken) _ (d .before .place .ensures) _ (d .measure .ensures) _ (o .one .given .1) (c .if1 .taken)
-
-add-number : tie.Need-add-number Inv-loop μ-loop
-add-number c = omega arith
-
-add-i : tie.Need-add-i Inv-loop μ-loop
-add-i c = omega arith
-
-loop-less : tie.Need-loop-less Inv-loop μ-loop
-loop-less c = omega arith
 
 loop-again : tie.Need-loop-again Inv-loop μ-loop
 loop-again c =
@@ -48,9 +30,6 @@ loop-again c =
     let l = d .before .before .before in
     rw (c .larger .ensures)
     (measuring-on _ _ _ _ _ _ _ _ (l .before .loop .inv) (l .before .before .smaller .ensures) (l .loop-test .taken) _ (d .before .place .ensures) _ (d .measure .ensures) _ (o .one .given .1) (c .before .if1 .left))
-
-enum-told : tie.Need-enum-told Inv-loop μ-loop
-enum-told c = search needs
 
 returns-2 : tie.Need-returns-2 Inv-loop μ-loop
 returns-2 c =
@@ -64,4 +43,4 @@ returns-3 c = measuring-past _ _ _ _ _ _ _ _ (c .before .loop .inv) (c .before .
 pub measure-all-spec : {M : Type 1} → statement M
 measure-all-spec =
     tie.close
-    (tie.spec Inv-loop μ-loop free loop-holds mul-place shared-slice-read-place free free enum-known-one returns free add-number add-i loop-less loop-again enum-told returns-2 returns-3)
+    (tie.spec Inv-loop μ-loop free loop-holds (λ c. omega arith) (λ c. omega arith) free free (λ c. search needs) returns free (λ c. omega arith) (λ c. omega arith) (λ c. omega arith) loop-again (λ c. search needs) returns-2 returns-3)

@@ -1,15 +1,12 @@
+-- `rest_above_zero` meets its contract, by its test. Assumes nothing.
 use mathlib.Core.Path.{refl}
 use borrow.Author.Tests.{lt-ltb, le-ltb}
 use Rattle.stretch.proofs.rest_above_zero.Statement.{statement}
 use Rattle.stretch.proofs.rest_above_zero.Tie as tie
-use Rattle.stretch.proofs.rest_above_zero.Reads as reads
-use Rattle.stretch.proofs.rest_above_zero.Lts as lts
 
--- src/lib.rt:50:1
 returns : tie.Need-returns
 returns c = rw (lt-ltb _ _ (c .if1 .taken)) refl
 
--- src/lib.rt:50:1
 returns-2 : tie.Need-returns-2
 returns-2 c = rw (le-ltb _ _ (c .if1 .left)) refl
 
