@@ -1,6 +1,5 @@
 // What a line means, read in code: the statement or setting that it says, with its data in a lent buffer.
-use language::Cell;
-use language::Fault;
+use language::{Cell, Fault};
 
 // "At most 127 per line": a lent buffer of this many bytes holds the data of any line.
 pub const ROOM: usize = 128;
