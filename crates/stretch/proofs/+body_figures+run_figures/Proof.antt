@@ -1,0 +1,142 @@
+-- The cycle of `run_figures` and `body_figures` meets its contracts. `run_figures` at the depth left d calls `body_figures` at d, which calls
+-- `run_figures` at d - 1: so the measures are 2d + 1 and 2d. Its loop keeps `Going`, and each role is a law of figures' Scanning. Assumes nothing.
+use mathlib.Core.Path.{_≡_}
+use Prim.Native.Nat.{ℕ, _+_, _-_, _<_}
+use native.Mathlib.Omega.{arith}
+use denote.Ref.{now}
+use borrow.Author.Needs.{needs}
+use borrow.Fn.Kinds.{In}
+use borrow.Fn.PlainCycle.{Measures, is, falls, and}
+use Rattle.figures.specs.Flat.{opens}
+use Rattle.figures.specs.Scan.{Stands}
+use Rattle.figures.proofs.Calls.{free}
+use Rattle.figures.proofs.Scanning.{Going, scan-starts, scan-past, scan-closes, scan-plain, scan-rest, scan-deeper, scan-enters, scan-opens, scan-passes}
+use Rattle.figures.proofs.Figures.join.Reads as join
+use Rattle.figures.proofs.Figures.nothing.Reads as nothing
+use Rattle.figures.proofs.Figures.passes.Reads as passes
+use Rattle.figures.proofs.Figures.plain.Reads as plain
+use Rattle.figures.proofs.Figures.sure_rest.Reads as sure-rest
+use Rattle.language.proofs.coder.cell_at.Reads as cell-at
+use Rattle.stretch.specs.declared.Role.{Role}
+use Rattle.stretch.specs.declared.Role.the-variants.{Other, SureRest, Loop, End}
+use Rattle.stretch.specs.Marks.{marked}
+use Rattle.stretch.specs.Scan.{marksTo}
+use Rattle.stretch.proofs.Marking.{marks-length, stands-role}
+use Rattle.stretch.proofs.role_of.Reads as role-of
+use Rattle.stretch.proofs.body_figures.Reads as body
+use Rattle.stretch.proofs.body_figures.Kinds as body-kinds
+use Rattle.stretch.proofs.+body_figures+run_figures.Lts-body_figures as body-lts
+use Rattle.stretch.proofs.run_figures.Reads as run
+use Rattle.stretch.proofs.run_figures.Kinds as run-kinds
+use Rattle.stretch.proofs.+body_figures+run_figures.Lts-run_figures as run-lts
+use Rattle.stretch.proofs.+body_figures+run_figures.{statement}
+use Rattle.stretch.proofs.+body_figures+run_figures.Tie.{close}
+
+-- the depth left is the fourth argument of both
+abbrev μ-body : Measures 1 body-kinds.ps ℕ
+μ-body κs a = a .1 .1 .1 .0 + a .1 .1 .1 .0
+
+abbrev μ-run : Measures 1 run-kinds.ps ℕ
+μ-run κs a = a .1 .1 .1 .0 + a .1 .1 .1 .0 + 1
+
+abbrev Inv-loop : run-lts.InvT-loop
+Inv-loop cells at end left sum₀ i₀ sum i = Going (marksTo cells end) at left sum i
+
+abbrev μ-loop : run-lts.MeasureT-loop
+μ-loop cells at end left sum₀ i₀ sum i = end - i
+
+-- what each function is given at the measure t, and what a call of it asks below t
+abbrev body-at : ℕ → In 1 body-kinds.ps
+body-at t = and 1 body-kinds.ps (is 1 body-kinds.ps μ-body t) body.Pre
+
+abbrev body-below : ℕ → In 1 body-kinds.ps
+body-below t = and 1 body-kinds.ps (falls 1 body-kinds.ps _<_ μ-body t) body.Pre
+
+abbrev run-at : ℕ → In 1 run-kinds.ps
+run-at t = and 1 run-kinds.ps (is 1 run-kinds.ps μ-run t) run.Pre
+
+abbrev run-below : ℕ → In 1 run-kinds.ps
+run-below t = and 1 run-kinds.ps (falls 1 run-kinds.ps _<_ μ-run t) run.Pre
+
+-- what each function knows of its callees
+abbrev body-calls : ℕ → body-lts.Claims
+body-calls t = (run-below t, run.Post, passes.Asked, passes.Learnt)
+
+abbrev run-calls : ℕ → run-lts.Claims
+run-calls t = (nothing.Asked, nothing.Learnt, cell-at.Asked, cell-at.Learnt, role-of.Asked, role-of.Learnt, plain.Asked, plain.Learnt, join.Asked, join.Learnt, sure-rest.Asked, sure-rest.Learnt, body-below t, body.Post)
+
+module _ (t : ℕ) where
+  body-sub : body-lts.Need-sub-run-figures (body-calls t) (body-at t) body.Post
+  body-sub c = omega (arith, c .pre .1 .deeper)
+
+  body-run : body-lts.Need-run-figures-requires (body-calls t) (body-at t) body.Post
+  body-run c κs = let p = c .pre .1 in (omega (arith, c .pre .0, p .deeper), record { inside = p .inside; scannable = p .scannable })
+
+  body-returns : body-lts.Need-returns (body-calls t) (body-at t) body.Post
+  body-returns c = rw (c .passes .ensures) (scan-passes _ (c .before .before .run-figures .ensures))
+
+  run-holds : run-lts.Need-loop-holds (run-calls t) (run-at t) run.Post Inv-loop μ-loop
+  run-holds c = rw (c .nothing .ensures) (scan-starts _ _ _ (c .before .pre .1 .scannable))
+
+  -- the mark that stands where the code has found a role
+  read : (c : run-lts.After-role-of (run-calls t) (run-at t) run.Post Inv-loop μ-loop) (role : Role) → c .role-of .result ≡ role
+      → Stands (marksTo (now (c .before .before .before .before .before .args .cells)) (c .before .before .before .before .before .args .end)) (c .before .before .before .loop .i) (marked role)
+  read c role e =
+      stands-role _ _ (c .before .before .before .before .before .pre .1 .inside) _ (c .before .before .loop-test .taken) _ _ role (c .before .cell-at .ensures) (c .role-of .ensures) e
+
+  run-again : run-lts.Need-loop-again (run-calls t) (run-at t) run.Post Inv-loop μ-loop
+  run-again c =
+      let d = c .before .before .before .before in
+      rw (c .join .ensures, c .before .plain .ensures) (scan-plain _ _ _ _ _ (d .before .before .before .loop .inv) (read d Other (c .before .before .enum-told .given .1)))
+
+  run-again-2 : run-lts.Need-loop-again-2 (run-calls t) (run-at t) run.Post Inv-loop μ-loop
+  run-again-2 c =
+      let d = c .before .before .before .before in
+      rw (c .join2 .ensures, c .before .sure-rest .ensures) (scan-rest _ _ _ _ _ (d .before .before .before .loop .inv) (read d SureRest (c .before .before .enum-told2 .given .1)))
+
+  -- the LOOP that stands where a body is entered
+  loops : (c : run-lts.After-join3 (run-calls t) (run-at t) run.Post Inv-loop μ-loop)
+      → Stands (marksTo (now (c .before .before .before .before .before .before .before .before .before .before .args .cells)) (c .before .before .before .before .before .before .before .before .before .before .args .end)) (c .before .before .before .before .before .before .before .before .loop .i) (opens (c .before .before .before .role .given .0 .0))
+  loops c = let g = c .before .before .before .role .given in read (c .before .before .before .before .before) (Loop (g .0 .0)) (g .1)
+
+  run-body : run-lts.Need-body-figures-requires (run-calls t) (run-at t) run.Post Inv-loop μ-loop
+  run-body c κs =
+      let d = c .before .before .before .before .before in
+      let p = d .before .before .before .before .before .pre in
+      let s = loops c in (
+        omega (arith, p .0),
+        record { inside = p .1 .inside; deeper = scan-deeper _ _ _ _ _ (d .before .before .before .loop .inv) _ s; scannable = scan-enters _ _ _ _ _ (d .before .before .before .loop .inv) _ s },
+      )
+
+  run-less-3 : run-lts.Need-loop-less-3 (run-calls t) (run-at t) run.Post Inv-loop μ-loop
+  run-less-3 c =
+      let e = c .before .before .body-figures .ensures in
+      let d = c .before .before .before .before .before .before .before .before in
+      let s = d .before .before .before .before .before in
+      omega (arith, e .low, e .high, marks-length (now (s .args .cells)) (s .args .end) (s .pre .1 .inside), d .before .before .loop-test .taken)
+
+  run-again-3 : run-lts.Need-loop-again-3 (run-calls t) (run-at t) run.Post Inv-loop μ-loop
+  run-again-3 c =
+      let e = c .before .before .before in
+      let d = e .before .before .before .before .before in
+      rw (c .join4 .ensures, e .join3 .ensures, e .before .plain2 .ensures)
+      (scan-opens _ _ _ _ _ (d .before .before .before .loop .inv) _ (loops e) _ _ (c .before .before .body-figures .ensures))
+
+  run-returns : run-lts.Need-returns (run-calls t) (run-at t) run.Post Inv-loop μ-loop
+  run-returns c =
+      let d = c .before .before in
+      scan-closes _ _ _ _ _ (d .before .before .before .loop .inv) (read d End (c .enum-told3 .given .1))
+
+  run-returns-2 : run-lts.Need-returns-2 (run-calls t) (run-at t) run.Post Inv-loop μ-loop
+  run-returns-2 c =
+      let s = c .before .before .before in
+      let l = marks-length (now (s .args .cells)) (s .args .end) (s .pre .1 .inside) in
+      scan-past _ _ _ _ _ (c .before .loop .inv) (omega arith)
+
+pub +body-figures+run-figures-spec : {M : Type 1} → statement M
++body-figures+run-figures-spec =
+    close μ-body μ-run
+    (λ t. body-lts.spec (body-calls t) (body-at t) body.Post (body-sub t) (body-run t) free (body-returns t))
+    (λ t. run-lts.spec (run-calls t) (run-at t) run.Post Inv-loop μ-loop free (run-holds t) free free (λ c. search needs) free free (λ c. omega arith) (λ c. omega arith) (run-again t)
+    (λ c. search needs) free free (λ c. omega arith) (λ c. omega arith) (run-again-2 t) (λ c. search needs) free free (λ c. omega arith) (run-body t) free (run-less-3 t) (run-again-3 t)
+    (λ c. search needs) (λ c. omega arith) (run-returns t) (run-returns-2 t))

@@ -1,0 +1,5 @@
+pub mod Marks
+pub mod Measured
+pub mod Reported
+pub mod Scan
+pub mod Cases
