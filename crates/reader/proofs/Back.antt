@@ -1,23 +1,19 @@
 -- What was written is read back. Assumes nothing.
 use Prim.Native.Nat.{ℕ, zero, suc, _+_, _*_, _/_, _%_, _^_, _≤_, _<_}
-use mathlib.Core.Path.{_≡_, refl, sym, ap, _∙_}
-use mathlib.Core.List.{List, [], _∷_, _++_, append-assoc}
+use mathlib.Core.Path.{_≡_, refl, ap, _∙_}
+use mathlib.Core.List.{List, [], _∷_, _++_}
 use native.Mathlib.Nat.{pow-suc, mod-lt, mul-comm, mul-assoc, add-mul, div-add-mod', le-mul-of-pos-right}
 use native.Mathlib.Omega.{arith}
-use lib.Dec.{ltb}
-use lib.ListN.{length, take, drop}
-use lib.Seq.{sets, sets-eq, drop-at, length-take-le}
 use borrow.Author.Tests.{lt-ltb, le-ltb, le-leb}
 use Rattle.reader.specs.Bytes.{digitOf}
 use Rattle.reader.specs.Number.{ended, numberGo, secondOf, pairOf}
 use Rattle.reader.specs.Hex.{good, before, stepOf, hexGo, capital, hexText}
-use Rattle.reader.specs.Put.{fixed, widthOf, decimal, twoDigits, putInto}
+use Rattle.reader.specs.Put.{fixed, widthOf, decimal, twoDigits}
 use Rattle.reader.specs.declared.Number.the-variants.{Value}
 use Rattle.reader.specs.declared.HexStep.the-variants.{First, Whole}
 use Rattle.reader.proofs.Tests.{Every}
 use Rattle.reader.proofs.Digits.{digit-is, capital-digit}
-use Rattle.reader.proofs.Decimals.{ten-pos, first-digit, fits-width, decimal-length, decimal-some, decimal-few}
-use Rattle.reader.proofs.Solid.{Shown, Solid}
+use Rattle.reader.proofs.Decimals.{ten-pos, first-digit, fits-width, decimal-length, decimal-some}
 
 -- ---- decimal numbers
 
@@ -110,10 +106,3 @@ hex-back (b ∷ bs) at h =
     let lo : b % 16 < 16 = omega arith in
     let e : b / 16 * 16 + b % 16 ≡ b = div-add-mod' b 16 in
     rw (first-half (b / 16) hi, second-half (b / 16) (b % 16) hi lo, e, hex-back bs (at + 1 + 1) (h .1))
-
--- ---- from where it was put: what stands there begins with the bytes that were written
-
-pub put-there : (bs d : List ℕ) (at : ℕ) → at + length bs ≤ length d → drop at (putInto bs d at) ≡ bs ++ drop (at + length bs) d
-unfolding putInto
-put-there bs d at h =
-    rw (le-leb _ _ h, sets-eq bs d at h, append-assoc) (drop-at (take at d) _ at (length-take-le at d (omega arith)))

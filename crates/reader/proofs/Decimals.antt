@@ -1,7 +1,6 @@
 -- The laws of decimal digits: how many a number has, and that each is one. Assumes nothing.
 use Prim.Native.Nat.{ℕ, zero, suc, _+_, _/_, _%_, _^_, _*_, _≤_, _<_}
-use mathlib.Core.Path.{_≡_, refl, sym, ap, _∙_}
-use mathlib.Core.List.{List}
+use mathlib.Core.Path.{_≡_, refl, sym, ap}
 use mathlib.Core.Bool.{Bool, true, false, cond}
 use native.Mathlib.Nat.{pow-suc, pow-le-pow-right, one-le-pow, div-lt-iff-lt-mul, mod-lt, mul-comm}
 use native.Mathlib.Numerals.{add-one}
@@ -33,40 +32,44 @@ between w k m a b = go (decLe k w)
     go (yes p) = let r : 10 ^ k ≤ 10 ^ w = pow-le-pow-right (omega arith) p in omega arith
     go (no p) = omega arith
 
-width-some : (more w m : ℕ) → w ≤ widthGo more w m
+width-go-some : (more w m : ℕ) → w ≤ widthGo more w m
 unfolding widthGo
-width-some zero w m = omega arith
-width-some (suc more) w m = go (ltb m (10 ^ w)) (width-some more (w + 1) m)
+width-go-some zero w m = omega arith
+width-go-some (suc more) w m = go (ltb m (10 ^ w)) (width-go-some more (w + 1) m)
   where
     go : (t : Bool) → w + 1 ≤ widthGo more (w + 1) m → w ≤ cond t w (widthGo more (w + 1) m)
     go true h = omega arith
     go false h = omega arith
 
-width-few : (more w m k : ℕ) → w ≤ k → m < 10 ^ k → widthGo more w m ≤ k
+width-go-few : (more w m k : ℕ) → w ≤ k → m < 10 ^ k → widthGo more w m ≤ k
 unfolding widthGo
-width-few zero w m k h l = h
-width-few (suc more) w m k h l = go (ltb m (10 ^ w)) refl (width-few more (w + 1) m k)
+width-go-few zero w m k h l = h
+width-go-few (suc more) w m k h l = go (ltb m (10 ^ w)) refl (width-go-few more (w + 1) m k)
   where
     go : (t : Bool) → ltb m (10 ^ w) ≡ t → (w + 1 ≤ k → m < 10 ^ k → widthGo more (w + 1) m ≤ k) → cond t w (widthGo more (w + 1) m) ≤ k
     go true e f = h
     go false e f = f (between w k m (ltb-false m (10 ^ w) e) l) l
 
-width-fits : (more w m : ℕ) → m < 10 ^ (w + more) → m < 10 ^ widthGo more w m
+width-go-fits : (more w m : ℕ) → m < 10 ^ (w + more) → m < 10 ^ widthGo more w m
 unfolding widthGo
-width-fits zero w m h =
+width-go-fits zero w m h =
     let e : w + 0 ≡ w = omega arith in
     rw e at h
-width-fits (suc more) w m h =
+width-go-fits (suc more) w m h =
     let s : w + suc more ≡ w + 1 + more = omega arith in
-    go (ltb m (10 ^ w)) refl (width-fits more (w + 1) m (rw s at h))
+    go (ltb m (10 ^ w)) refl (width-go-fits more (w + 1) m (rw s at h))
   where
     go : (t : Bool) → ltb m (10 ^ w) ≡ t → m < 10 ^ widthGo more (w + 1) m → m < 10 ^ cond t w (widthGo more (w + 1) m)
     go true e f = ltb-true m (10 ^ w) e
     go false e f = f
 
+pub width-few : (k n : ℕ) → 0 < k → n < 10 ^ k → widthOf n ≤ k
+unfolding widthOf
+width-few k n h l = width-go-few 9 1 n k h l
+
 pub fits-width : (n : ℕ) → n < 10 ^ 10 → n < 10 ^ widthOf n
 unfolding widthOf
-fits-width n h = width-fits 9 1 n h
+fits-width n h = width-go-fits 9 1 n h
 
 fixed-length : (k m : ℕ) → length (fixed k m) ≡ k
 unfolding fixed
@@ -79,11 +82,10 @@ decimal-length n = fixed-length (widthOf n) n
 
 pub decimal-some : (n : ℕ) → 0 < length (decimal n)
 unfolding widthOf
-decimal-some n = omega (arith, decimal-length n, width-some 9 1 n)
+decimal-some n = omega (arith, decimal-length n, width-go-some 9 1 n)
 
 pub decimal-few : (k n : ℕ) → 0 < k → n < 10 ^ k → length (decimal n) ≤ k
-unfolding widthOf
-decimal-few k n h l = rw (decimal-length n) (width-few 9 1 n k h l)
+decimal-few k n h l = rw (decimal-length n) (width-few k n h l)
 
 -- ---- what every digit has, all bytes of the number have
 

@@ -1,6 +1,6 @@
 -- A refusal inside some bytes is final: what comes after them does not matter. Assumes nothing.
 use Prim.Native.Nat.{ℕ, _+_, _*_, _<_}
-use mathlib.Core.Path.{_≡_, refl}
+use mathlib.Core.Path.{_≡_}
 use mathlib.Core.List.{List, [], _∷_, _++_}
 use mathlib.Core.Bool.{Bool, true, false, cond, _&&_}
 use native.Mathlib.Omega.{arith}
@@ -9,7 +9,6 @@ use lib.ListN.{length}
 use Rattle.reader.specs.Bytes.{digitOf}
 use Rattle.reader.specs.Number.{ended, numberGo, secondOf, pairOf}
 use Rattle.reader.specs.Hex.{Said, good, bad, stepOf, before, after, hexGo, hexSecond, hexByteOf}
-use Rattle.reader.specs.declared.Number.{Number}
 use Rattle.reader.specs.declared.Number.the-variants.{Value, Bad}
 use Rattle.reader.specs.declared.HexStep.{HexStep}
 use Rattle.reader.specs.declared.HexStep.the-variants.{Refuse, Skip, First, Whole}

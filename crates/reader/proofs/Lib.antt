@@ -8,6 +8,7 @@ pub mod Places
 pub mod Decimals
 pub mod Hexes
 pub mod Back
+pub mod Joined
 pub mod Moved
 pub mod Final
 -- the states of the loops

@@ -1,5 +1,5 @@
 -- A reading from another place gives the same answer, its place moved by the difference. Assumes nothing.
-use Prim.Native.Nat.{ℕ, _+_, _*_, _<_}
+use Prim.Native.Nat.{ℕ, _+_, _*_}
 use mathlib.Core.Path.{_≡_, refl, sym, ap, _∙_}
 use mathlib.Core.Bool.{Bool, true, false, cond, _&&_}
 use mathlib.Core.List.{List, [], _∷_}
@@ -9,8 +9,7 @@ use lib.ListN.{drop}
 use Rattle.reader.specs.Bytes.{digitOf}
 use Rattle.reader.specs.Number.{ended, numberGo, numberAt, secondOf, pairOf, pairAt, moved}
 use Rattle.reader.specs.Hex.{Said, good, bad, stepOf, before, after, hexGo, hexAt, movedSaid, hexSecond, hexByteOf, hexByteAt}
-use Rattle.reader.specs.declared.Number.{Number}
-use Rattle.reader.specs.declared.Number.the-variants.{Value, Bad}
+use Rattle.reader.specs.declared.Number.the-variants.{Value}
 use Rattle.reader.specs.declared.HexStep.{HexStep}
 use Rattle.reader.specs.declared.HexStep.the-variants.{Refuse, Skip, First, Whole}
 

@@ -6,6 +6,7 @@ ghost use lib.ListN.{drop};
 use super::Number;
 use super::bytes::digit;
 
+// A digit as wide as the sums that it goes into.
 fn wide(d: u8) -> u64
     ensures { λ r. ⌜ r ≡ d ⌝ }
 {

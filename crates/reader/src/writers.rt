@@ -79,6 +79,7 @@ struct Digits {
     power: u64,
 }
 
+// Looks for the first power of ten above a number.
 fn width(n: u32) -> Digits
     ensures { λ r. ⌜ (r .count ≡ widthOf n) × (r .power ≡ 10 ^ widthOf n) ⌝ }
 {

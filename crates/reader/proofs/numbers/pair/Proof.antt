@@ -47,9 +47,14 @@ second-requires c κs = search needs
 
 returns-5 : tie.Need-returns-5
 returns-5 c =
-    let e = c .before in
-    let d = e .before .before .before in
-    c .second .ensures ∙ sym (pair-first _ _ (d .before .before .if1 .left) (d .digit .ensures) (e .before .before .if2 .left) (e .before .if3 .left) (e .if4 .left))
+    c .second .ensures
+    ∙ sym
+    (pair-first _ _
+    (c .before .before .before .before .before .before .if1 .left)
+    (c .before .before .before .before .digit .ensures)
+    (c .before .before .before .if2 .left)
+    (c .before .before .if3 .left)
+    (c .before .if4 .left))
 
 pub pair-spec : {M : Type 1} → statement M
 pair-spec =
