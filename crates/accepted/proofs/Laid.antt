@@ -142,7 +142,7 @@ module _ (stretch : List Statement → ℕ) (s : Script) (g : Good stretch s) wh
   abbrev es : List ℕ
   es = endsFrom 0 (s .body)
 
-  laid-ends : endsRight (headsOf s) ≡ true
+  pub laid-ends : endsRight (headsOf s) ≡ true
   unfolding endsRight headsOf
   laid-ends =
       let n = ends-count (s .body) 0 in
@@ -150,7 +150,7 @@ module _ (stretch : List Statement → ℕ) (s : Script) (g : Good stretch s) wh
       let few : length es ≤ processLimit = omega (arith, g .few) in
       rw (le-leb 1 (length es) some, le-leb (length es) processLimit few, pad-take processLimit es, ends-rising (s .body) 0 0 (omega (arith, words-few)), pad-drop processLimit es)
 
-  laid-cells : cellsRight (laidOut s .cells) (laidOut s .pool) (headsOf s) ≡ true
+  pub laid-cells : cellsRight (laidOut s .cells) (laidOut s .pool) (headsOf s) ≡ true
   unfolding cellsRight headsOf laidOut
   laid-cells =
       let ws : List ℕ = wordsFrom 0 (s .body) in
@@ -161,7 +161,7 @@ module _ (stretch : List Statement → ℕ) (s : Script) (g : Good stretch s) wh
       let end : wordsEnd 0 ws ≡ length bytes = fit .1 ∙ omega arith in
       rw (pad-take processLimit es, last, pad-take linesLimit ws, fit .0, pad-drop linesLimit ws, end, eq-eqb (length bytes) (length bytes) refl, le-leb (length bytes) dataLimit used, pad-drop dataLimit bytes)
 
-  laid-settings : settingsRight (s .settings) ≡ true → settingsFit (headsOf s) ≡ true
+  pub laid-settings : settingsRight (s .settings) ≡ true → settingsFit (headsOf s) ≡ true
   unfolding settingsFit
   laid-settings r =
       let letters : lettersOf (headsOf s .extension) ≡ s .settings .lfext = unfold settingsOf in ap (λ (x : Settings). x .lfext) (settings-back s r) in

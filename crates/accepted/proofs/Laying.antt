@@ -150,7 +150,7 @@ module _ (t : Table) (ty : Typed t) where
         (rw e (whole .walk .bytes))
         (both-right (leb (h .used) dataLimit) _ q)
 
-    ends-long : length (endsOf h) ≡ h .processes
+    pub ends-long : length (endsOf h) ≡ h .processes
     ends-long = length-take-le (h .processes) (h .ends) (omega (arith, ty .ends, processes-few))
 
     laid-heads : settingsFit h ≡ true → headsOf (scriptOf t) ≡ h

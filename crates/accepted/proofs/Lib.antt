@@ -4,3 +4,4 @@ pub mod Bodies
 pub mod Counting
 pub mod Laying
 pub mod Laid
+pub mod Passing

@@ -15,6 +15,7 @@ use Rattle.language.specs.Meaning.{extension}
 use Rattle.language.specs.Right.{dataRight, logRight}
 use Rattle.language.specs.Cell.{decoded}
 use Rattle.language.specs.Table.{dataAt, lettersOf}
+use Rattle.stretch.specs.Measured.{measured, isLargest}
 
 -- "unused cells are zero"
 unfoldable pub zeros : List ℕ → Bool
@@ -125,3 +126,7 @@ linesIn h = settingsIn h + (one (firstEmpty h) + (inUse h + (h .processes - 1)))
 -- all but the nesting and the stretch
 unfoldable pub fits : List ℕ → List ℕ → Heads → Bool
 fits cells pool h = endsRight h && (cellsRight cells pool h && (settingsFit h && leb (linesIn h) linesLimit))
+
+-- and the nesting and the stretch
+unfoldable pub passes : List ℕ → List ℕ → Heads → Bool
+passes cells pool h = fits cells pool h && isLargest (measured cells h)

@@ -24,7 +24,7 @@ use Rattle.language.proofs.Tables.{script-back}
 use Rattle.stretch.specs.declared.Measured.{Measured}
 use Rattle.stretch.specs.declared.Measured.the-variants.{Largest, Over, Broken}
 use Rattle.stretch.specs.Marks.{processesOf}
-use Rattle.stretch.specs.Measured.{stretchIn, measuredFrom, measured}
+use Rattle.stretch.specs.Measured.{stretchIn, measuredFrom, measured, isLargest}
 use Rattle.stretch.proofs.Scripts.{marksOf, table-marks, allNest, nests-processes}
 
 -- what an answer says of processes that are told by their statements, `best` being the largest stretch and `number` - 1 the number of those before
@@ -109,11 +109,6 @@ module _ (s : Script) (rights : allRight (s .body) ≡ true) (bytes : dataIn (s 
     script-nests e = subst (Answers s) e measured-script
 
 -- ---- any table that has a process
-
-abbrev pub isLargest : Measured → Bool
-isLargest (Largest k) = true
-isLargest (Over n) = false
-isLargest Broken = false
 
 right-more : (n l : Bool) (number : ℕ) (r : Measured) (a b : Bool) → isLargest r ≡ (a && b)
     → isLargest (cond n (cond l r (Over number)) Broken) ≡ ((n && a) && (l && b))

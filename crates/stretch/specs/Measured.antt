@@ -1,5 +1,5 @@
 -- What is answered of a table, as a function that computes. Assumes nothing: these are definitions.
-use mathlib.Core.Bool.{cond}
+use mathlib.Core.Bool.{Bool, true, false, cond}
 use mathlib.Core.List.{List, [], _∷_}
 use Prim.Native.Nat.{ℕ, _+_, max}
 use lib.Dec.{leb}
@@ -33,3 +33,9 @@ measuredFrom number best (p ∷ ps) =
 -- what is answered of a table
 abbrev pub measured : List ℕ → Heads → Measured
 measured cells heads = measuredFrom 1 0 (processesOf cells heads)
+
+-- every process nests, and none has a stretch over 4,096
+abbrev pub isLargest : Measured → Bool
+isLargest (Largest k) = true
+isLargest (Over n) = false
+isLargest Broken = false
