@@ -1,1 +1,4 @@
 pub mod Line
+pub mod Tells
+pub mod Names
+pub mod Parts

@@ -1,5 +1,10 @@
 // What a line means, read in code: the statement or setting that it says, with its data in a lent buffer.
-use language::{Cell, Fault};
+use language::Cell;
+use language::Fault;
+
+mod settings;
+mod times;
+mod words;
 
 // "At most 127 per line": a lent buffer of this many bytes holds the data of any line.
 pub const ROOM: usize = 128;
@@ -26,4 +31,16 @@ pub enum Line {
     Omit(u8),
     Lfext(Letters),
     Faulty(Fault),
+}
+
+// How many bytes data are, or the place of the first byte that cannot be taken.
+enum Found {
+    Bytes(u16),
+    Bad(usize),
+}
+
+// A value of a clock's unit, or the place of the first byte that cannot be taken.
+enum Unit {
+    Of(u8),
+    Bad(usize),
 }
