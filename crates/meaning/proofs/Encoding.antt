@@ -1,8 +1,10 @@
 -- ENCODE's byte: what each way on has found of the argument. Assumes nothing.
 use Prim.Native.Nat.{ℕ, suc, _<_}
 use mathlib.Core.Path.{_≡_, refl, sym, ap, _∙_}
+use mathlib.Core.Bool.{cond}
 use mathlib.Core.List.{List, [], _∷_}
 use native.Mathlib.Omega.{arith}
+use lib.Dec.{eqb}
 use lib.ListN.{length, getD, drop, drop-of-length-le}
 use lib.Seq.{drop-cons}
 use borrow.Author.Tests.{eq-eqb, ne-eqb}
@@ -32,41 +34,31 @@ unfolding moved
 reads-moved P k (Value v next) h = h
 reads-moved P k (Bad at) h = tt
 
-module _ (a : List ℕ) {first : ℕ} (is : first ≡ getD a 0 0) (some : length a ≡ 0 → ⊥) where
-  pub hex-byte : first ≡ 58 → encodeOf a ≡ encodeHex (hexByteAt a 1)
-  unfolding encodeOf
-  hex-byte e = go a is some
-    where
-      go : (a : List ℕ) → first ≡ getD a 0 0 → (length a ≡ 0 → ⊥) → encodeOf a ≡ encodeHex (hexByteAt a 1)
-      go [] p q = absurd (q refl)
-      go (b ∷ l) p q =
-          rw (eq-eqb b 58 (sym p ∙ e))
-          (sym (ap encodeHex (hex-byte-at-moved (b ∷ l) 1) ∙ hex-moved 1 (hexByteAt l 0)))
+some-byte : (a : List ℕ) → (length a ≡ 0 → ⊥)
+    → encodeOf a
+    ≡ cond (eqb (getD a 0 0) 58) (encodeHex (hexByteAt a 1)) (cond (eqb (getD a 0 0) 47) (encodeByte (drop 1 a)) (setEncode (getD a 0 0)))
+unfolding encodeOf
+some-byte [] h = absurd (h refl)
+some-byte (b ∷ l) h = rw (hex-byte-at-moved (b ∷ l) 1, hex-moved 1 (hexByteAt l 0))
 
-  module _ (n : first ≡ 58 → ⊥) (e : first ≡ 47) where
-    slash : encodeOf a ≡ encodeByte (drop 1 a)
-    unfolding encodeOf
-    slash = go a is some
-      where
-        go : (a : List ℕ) → first ≡ getD a 0 0 → (length a ≡ 0 → ⊥) → encodeOf a ≡ encodeByte (drop 1 a)
-        go [] p q = absurd (q refl)
-        go (b ∷ l) p q = rw (ne-eqb b 58 (λ f. n (p ∙ f)), eq-eqb b 47 (sym p ∙ e))
+module _ (a : List ℕ) (some : length a ≡ 0 → ⊥) where
+  pub hex-byte : getD a 0 0 ≡ 58 → encodeOf a ≡ encodeHex (hexByteAt a 1)
+  hex-byte e = some-byte a some ∙ rw (eq-eqb (getD a 0 0) 58 e)
 
-    pub no-second : length a ≡ 1 → encodeOf a ≡ fault BadRest
+  module _ (n : getD a 0 0 ≡ 58 → ⊥) where
+    slash : getD a 0 0 ≡ 47 → encodeOf a ≡ encodeByte (drop 1 a)
+    slash e = some-byte a some ∙ rw (ne-eqb (getD a 0 0) 58 n, eq-eqb (getD a 0 0) 47 e)
+
+    pub no-second : getD a 0 0 ≡ 47 → length a ≡ 1 → encodeOf a ≡ fault BadRest
     unfolding encodeByte
-    no-second h = slash ∙ ap encodeByte (drop-of-length-le a {i = 1} (omega arith))
+    no-second e h = slash e ∙ ap encodeByte (drop-of-length-le a {i = 1} (omega arith))
 
-    pub second : (length a ≡ 1 → ⊥) → encodeOf a ≡ setEncode (getD a 1 0)
+    pub second : getD a 0 0 ≡ 47 → (length a ≡ 1 → ⊥) → encodeOf a ≡ setEncode (getD a 1 0)
     unfolding encodeByte
-    second h = slash ∙ ap encodeByte (drop-cons a 1 0 (omega arith))
+    second e h = slash e ∙ ap encodeByte (drop-cons a 1 0 (omega arith))
 
-  pub itself : (first ≡ 58 → ⊥) → (first ≡ 47 → ⊥) → encodeOf a ≡ setEncode first
-  unfolding encodeOf
-  itself n m = go a is some
-    where
-      go : (a : List ℕ) → first ≡ getD a 0 0 → (length a ≡ 0 → ⊥) → encodeOf a ≡ setEncode first
-      go [] p q = absurd (q refl)
-      go (b ∷ l) p q = rw (ne-eqb b 58 (λ f. n (p ∙ f)), ne-eqb b 47 (λ f. m (p ∙ f))) (ap setEncode (sym p))
+    pub itself : (getD a 0 0 ≡ 47 → ⊥) → encodeOf a ≡ setEncode (getD a 0 0)
+    itself m = some-byte a some ∙ rw (ne-eqb (getD a 0 0) 58 n, ne-eqb (getD a 0 0) 47 m)
 
 pub byte-fits : (a : List ℕ) {v next : ℕ} → Value v next ≡ hexByteAt a 1 → v < 256
 byte-fits a e = rw (sym (e ∙ hex-byte-at-moved a 1)) at (reads-moved (λ v. v < 256) 1 (hexByteAt (drop 1 a) 0) (hex-byte-reads (drop 1 a)))

@@ -5,3 +5,5 @@ pub mod Encoding
 pub mod Extension
 -- numbers and times
 pub mod Timing
+-- clock values
+pub mod Clocking

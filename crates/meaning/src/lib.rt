@@ -2,6 +2,7 @@
 use language::Cell;
 use language::Fault;
 
+mod clocks;
 mod settings;
 mod times;
 mod words;

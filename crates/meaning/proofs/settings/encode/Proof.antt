@@ -1,5 +1,5 @@
 -- `encode` meets its contract: each `return` is a case of `encodeOf`. Assumes nothing.
-use mathlib.Core.Path.{refl, sym, ap, _∙_}
+use mathlib.Core.Path.{sym, ap, _∙_}
 use Rattle.language.specs.Meaning.{encodeHex, encodeByte}
 use Rattle.meaning.specs.Line.{shown}
 use Rattle.meaning.proofs.Encoding.{no-byte, hex-byte, no-second, second, itself, byte-fits}
@@ -28,26 +28,26 @@ enum-told c = search needs
 
 returns-2 : tie.Need-returns-2
 unfolding shown encodeHex
-returns-2 c = ap shown (sym (hex-byte _ refl (c .before .before .before .before .before .before .if1 .left) (c .before .before .before .before .if2 .taken) ∙ ap encodeHex (sym (c .before .before .before .hex-byte .ensures) ∙ c .before .b .given .1)))
+returns-2 c = ap shown (sym (hex-byte _ (c .before .before .before .before .before .before .if1 .left) (c .before .before .before .before .if2 .taken) ∙ ap encodeHex (sym (c .before .before .before .hex-byte .ensures) ∙ c .before .b .given .1)))
 
 returns-3 : tie.Need-returns-3
 unfolding shown encodeHex
-returns-3 c = ap shown (sym (hex-byte _ refl (c .before .before .before .before .before .if1 .left) (c .before .before .before .if2 .taken) ∙ ap encodeHex (sym (c .before .before .hex-byte .ensures) ∙ c .enum-told .given .1)))
+returns-3 c = ap shown (sym (hex-byte _ (c .before .before .before .before .before .if1 .left) (c .before .before .before .if2 .taken) ∙ ap encodeHex (sym (c .before .before .hex-byte .ensures) ∙ c .enum-told .given .1)))
 
 returns-4 : tie.Need-returns-4
 unfolding shown encodeByte
-returns-4 c = ap shown (sym (no-second _ refl (c .before .before .before .before .if1 .left) (c .before .before .if2 .left) (c .before .if3 .taken) (c .if4 .taken)))
+returns-4 c = ap shown (sym (no-second _ (c .before .before .before .before .if1 .left) (c .before .before .if2 .left) (c .before .if3 .taken) (c .if4 .taken)))
 
 shared-slice-read-t17 : tie.Need-shared-slice-read-t17
 shared-slice-read-t17 c = search needs
 
 returns-5 : tie.Need-returns-5
 unfolding shown encodeByte
-returns-5 c = ap shown (sym (second _ refl (c .before .before .before .before .before .if1 .left) (c .before .before .before .if2 .left) (c .before .before .if3 .taken) (c .before .if4 .left)))
+returns-5 c = ap shown (sym (second _ (c .before .before .before .before .before .if1 .left) (c .before .before .before .if2 .left) (c .before .before .if3 .taken) (c .before .if4 .left)))
 
 returns-6 : tie.Need-returns-6
 unfolding shown
-returns-6 c = ap shown (sym (itself _ refl (c .before .before .before .if1 .left) (c .before .if2 .left) (c .if3 .left)))
+returns-6 c = ap shown (sym (itself _ (c .before .before .before .if1 .left) (c .before .if2 .left) (c .if3 .left)))
 
 pub encode-spec : {M : Type 1} → statement M
 encode-spec =
