@@ -7,3 +7,6 @@ pub mod Extension
 pub mod Timing
 -- clock values
 pub mod Clocking
+-- data and signs
+pub mod Filling
+pub mod Signing

@@ -1,4 +1,4 @@
 pub mod Line
+pub mod Parts
 pub mod Tells
 pub mod Names
-pub mod Parts

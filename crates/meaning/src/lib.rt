@@ -4,6 +4,7 @@ use language::Fault;
 
 mod clocks;
 mod settings;
+mod texts;
 mod times;
 mod words;
 
