@@ -8,8 +8,8 @@ use lib.Dec.{eqb, eqb·zero-suc, eqb·suc-suc}
 use lib.ListN.{length, take, drop, length-drop}
 use lib.Seq.{take-all, take-length, length-take-le}
 use Rattle.reader.specs.Bytes.{isBlank, all, same}
-use Rattle.reader.specs.Words.{skip, blanks, argument, afterBlanks, trimmedEnd, isNamed}
-use Rattle.reader.proofs.Places.{blanks-drop, blanks-within, trim-take, trimmed-within}
+use Rattle.reader.specs.Words.{skip, blanks, argument, wordOf, afterWord, afterBlanks, wordEnd, trimmedEnd, isNamed}
+use Rattle.reader.proofs.Places.{blanks-drop, blanks-within, word-drop, word-take, word-within, trim-take, trimmed-within}
 
 -- the part from a place to the end
 pub to-end : (s : List ℕ) (n : ℕ) → take (length s - n) (drop n s) ≡ drop n s
@@ -57,3 +57,20 @@ module _ (s : List ℕ) {from : ℕ} (told : from ≡ afterBlanks s 0) where
 
 pub end-within : (tail : List ℕ) {end : ℕ} → end ≡ trimmedEnd tail → end ≡ length (take end tail)
 end-within tail {end} e = sym (length-take-le end tail (omega (arith, e, trimmed-within tail)))
+
+-- ---- the first word and what follows it: `end` is the place that the code has found
+
+module _ (s : List ℕ) {end : ℕ} (told : end ≡ wordEnd s 0) where
+  pub word-inside : end ≤ length s
+  word-inside = omega (arith, told, word-within s 0 .to (omega arith))
+
+  pub word-length : end ≡ length (take end s)
+  word-length = sym (length-take-le end s word-inside)
+
+  pub first-word : take end s ≡ wordOf s
+  first-word =
+      let e : wordEnd s 0 - 0 ≡ wordEnd s 0 = omega arith in
+      ap (λ (n : ℕ). take n s) (told ∙ sym e) ∙ word-take s 0
+
+  pub behind-word : take (length s - end) (drop end s) ≡ afterWord s
+  behind-word = to-end s end ∙ ap (λ (n : ℕ). drop n s) told ∙ word-drop s 0

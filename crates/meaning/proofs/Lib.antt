@@ -10,3 +10,9 @@ pub mod Clocking
 -- data and signs
 pub mod Filling
 pub mod Signing
+-- names
+pub mod Dataless
+pub mod Naming
+pub mod Choosing
+-- the line
+pub mod Beginning
