@@ -12,11 +12,14 @@ use language::Fault;
 use reader::Number;
 use reader::numbers::number;
 
-// A number up to 60,000 with nothing behind it.
+// "0 to 60000": the largest number of a line.
+const MOST: u32 = 60000;
+
+// A number with nothing behind it.
 fn whole_number(argument: &[u8]) -> Number
     ensures { λ r. ⌜ r ≡ whole (now (argument .entry)) (numberAt 5 60000 (now (argument .entry)) 0) ⌝ }
 {
-    match number(argument, 0, 5, 60000) {
+    match number(argument, 0, 5, MOST) {
         Number::Value(v, next) => {
             if next == argument.len() {
                 return Number::Value(v, next);
@@ -82,7 +85,7 @@ fn time_in(unit: &[u8], v: u32) -> Line
 pub fn wait_time(argument: &[u8]) -> Line
     ensures { λ r. ⌜ r ≡ shown (timeOf (now (argument .entry))) ⌝ }
 {
-    match number(argument, 0, 5, 60000) {
+    match number(argument, 0, 5, MOST) {
         Number::Value(v, next) => time_in(&argument[next..], v),
         Number::Bad(at) => {
             if at == 0 {
