@@ -10,7 +10,7 @@ use Rattle.reader.specs.Ascii.{ascii}
 use Rattle.reader.specs.Bytes.{all, same}
 use Rattle.reader.specs.Words.{skip, argument, afterBlanks, wordEnd}
 use Rattle.language.specs.declared.Fault.the-variants.{NoSuchName}
-use Rattle.language.specs.Script.{Meaning, process, says, end, waitSignal, fchange, pause, resume, nop, fault, dataOf}
+use Rattle.language.specs.Script.{Meaning, process, says, end, waitSignal, pause, resume, fault, dataOf}
 use Rattle.language.specs.Table.{cellFor}
 use Rattle.language.specs.Clock.{clockOf}
 use Rattle.language.specs.Meaning.{entry, lookup, bare, signal, waits, names, named, loopOf, waitOf, timeOf, byteOf, clockSays, dataSays, markedData, rtsOf, logOf, encodeOf, stopbitsOf, exIn, omitSays, lfextOf}
@@ -21,7 +21,7 @@ use Rattle.meaning.specs.Tells.{Tells}
 use Rattle.meaning.specs.Names.{only, byteIs, lengthIs, begins, long, waitsLong}
 use Rattle.meaning.proofs.Cuts.{skipped, first-word, behind-word}
 use Rattle.meaning.proofs.Naming.{tells-as, quiet, is-it, is-not, none-named, parted, bare-shown}
-use Rattle.meaning.proofs.Dataless.{Dataless, Quiet, lookup-quiet, bare-quiet, loop-quiet, byte-quiet, time-quiet, clock-quiet, rts-quiet, ex-quiet}
+use Rattle.meaning.proofs.Dataless.{Dataless, lookup-quiet, bare-quiet, clock-quiet, rts-quiet, ex-quiet}
 
 -- the byte at a place is none of these
 abbrev noneOf : ℕ → List ℕ → List ℕ → Bool

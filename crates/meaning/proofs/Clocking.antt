@@ -23,7 +23,6 @@ use Rattle.language.specs.Cell.{clock, clockFrom}
 use Rattle.language.specs.Table.{cellFor}
 use Rattle.language.specs.Meaning.{clockSays}
 use Rattle.language.proofs.Reading.{When, Reads, pair-reads}
-use Rattle.meaning.specs.declared.Line.{Line}
 use Rattle.meaning.specs.declared.Line.the-variants.{Says, Faulty}
 use Rattle.meaning.specs.declared.Unit.{Unit}
 use Rattle.meaning.specs.declared.Unit.the-variants as Unit

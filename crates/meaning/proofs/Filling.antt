@@ -18,7 +18,6 @@ use Rattle.language.specs.Table.{cellFor}
 use Rattle.language.specs.Script.{send, log, says, fault, dataOf, Meaning}
 use Rattle.language.specs.Meaning.{markedData, sendSays, dataSays, omitSays, signs, logOf}
 use Rattle.language.proofs.Reading as right
-use Rattle.meaning.specs.declared.Line.{Line}
 use Rattle.meaning.specs.declared.Line.the-variants.{Says, Omit, Faulty}
 use Rattle.meaning.specs.declared.Found.{Found}
 use Rattle.meaning.specs.declared.Found.the-variants as Found

@@ -1,7 +1,7 @@
 -- Counts and times: what each way on has found of the argument. Assumes nothing.
 use Prim.Native.Nat.{ℕ, zero, suc, _+_, _-_, _*_, _≤_, _<_}
 use mathlib.Core.Path.{_≡_, refl, sym, ap, _∙_}
-use mathlib.Core.Bool.{Bool, true, false, cond, _||_}
+use mathlib.Core.Bool.{Bool, true, false, cond}
 use mathlib.Core.List.{List, [], _∷_}
 use native.Mathlib.Omega.{arith}
 use lib.Dec.{ltb, leb, eqb}
@@ -15,7 +15,7 @@ use Rattle.reader.specs.declared.Number.the-variants.{Value, Bad}
 use Rattle.reader.proofs.Tests.{by-cases}
 use Rattle.reader.proofs.Same.{same-is}
 use Rattle.language.specs.declared.Fault.the-variants.{BadRest}
-use Rattle.language.specs.Script.{Statement, loop, waitTime, waitByte, Meaning, says, fault}
+use Rattle.language.specs.Script.{Statement, loop, waitTime, waitByte, says, fault}
 use Rattle.language.specs.Meaning.{numberSays, number, loopOf, byteOf, timeIn, timeBy, timeOf}
 use Rattle.language.proofs.Reading.{Reads, number-reads}
 use Rattle.meaning.specs.Parts.{whole}

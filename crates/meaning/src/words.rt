@@ -1,6 +1,5 @@
 // Words and what stands behind them.
 ghost use mathlib.Core.Path.{_≡_};
-ghost use mathlib.Core.Bool.{cond};
 ghost use Rattle.reader.specs.Bytes.{all, same, isBlank};
 ghost use Rattle.reader.specs.Words.{argument};
 ghost use Rattle.meaning.specs.Parts.{bareLine};
