@@ -15,6 +15,7 @@ use Rattle.runner.specs.declared.Refusal.{Refusal}
 use Rattle.runner.specs.declared.Refusal.the-variants.{Busy, BadReading, NoSuchSignal, SmallBuffer, BadTable}
 use Rattle.runner.specs.declared.Taken.the-variants as taken
 use Rattle.runner.specs.declared.Event.{Event}
+use Rattle.runner.specs.declared.Received.{Received}
 use Rattle.runner.specs.declared.Received.the-variants as received
 use Rattle.runner.specs.declared.ByteEvent.{ByteEvent}
 use Rattle.runner.specs.Waiting.{ready, ticked, byteTaken, rangeRight, readingTaken, levelTaken}
@@ -57,14 +58,8 @@ tickEvent s = cond (busy s) (refused s Busy) (took (withProcesses s (map ticked 
 -- "A reading has year 0 to 99, month 1 to 12, day 1 to 31, hour to 23, minute and second to 59."
 unfoldable pub readingRight : Reading → Bool
 readingRight r =
-    leb (r .year) 99
-    && (leb 1 (r .month)
-    && (leb (r .month) 12
-    && (leb 1 (r .day)
-    && (leb (r .day) 31
-    && (leb (r .hour) 23
-    && (leb (r .minute) 59
-    && leb (r .second) 59))))))
+    (leb (r .year) 99 && (leb 1 (r .month) && (leb (r .month) 12 && (leb 1 (r .day) && leb (r .day) 31))))
+    && (leb (r .hour) 23 && (leb (r .minute) 59 && leb (r .second) 59))
 
 -- a clock reading: 21, then 22
 unfoldable pub readingEvent : State → Reading → Event
@@ -86,14 +81,14 @@ levelEvent s n on =
 unfoldable pub rangesRight : Heads → State → Bool
 rangesRight h s = leb (h .omits) omitLimit && every rangeRight (s .processes)
 
+abbrev pub answeredWith : State → Received → ByteEvent
+answeredWith s a = record { state = s; answer = a }
+
 -- a received byte: 25, then 21; "It counts for waits in every case"
 unfoldable pub byteEvent : List ℕ → Heads → State → ℕ → ByteEvent
 byteEvent pool h s b =
     cond (rangesRight h s)
     (cond (busy s)
-    (record { state = s; answer = received.Refused Busy })
-    (record {
-      state = withProcesses s (map (byteTaken pool b) (s .processes));
-      answer = received.Took (record { count = copies h (s .paused) b });
-    }))
-    (record { state = s; answer = received.Refused BadTable })
+    (answeredWith s (received.Refused Busy))
+    (answeredWith (withProcesses s (map (byteTaken pool b) (s .processes))) (received.Took (record { count = copies h (s .paused) b }))))
+    (answeredWith s (received.Refused BadTable))

@@ -4,6 +4,7 @@ pub mod Waiting
 pub mod Recording
 pub mod Events
 pub mod Moving
+pub mod Following
 pub mod Logging
 pub mod Draining
 pub mod Starting

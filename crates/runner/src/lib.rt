@@ -1,5 +1,13 @@
 // The runner: start, the four events and the drain, on a lent table and a state by value.
 use language::Clock;
+
+pub mod events;
+mod joining;
+mod matching;
+mod moving;
+pub mod receiving;
+mod waits;
+
 use language::LINES;
 use language::LOOPS;
 use language::Level;
@@ -119,4 +127,16 @@ pub struct Drained {
 pub struct Moved {
     pub found: bool,
     pub process: Process,
+}
+
+// What follows a WAIT DATA line: another with so many bytes, or something else.
+pub enum Follow {
+    Bytes(u16),
+    Other,
+}
+
+// The WAIT DATA lines that follow: how many cells, and how many bytes they have.
+pub struct Joined {
+    pub cells: u16,
+    pub bytes: u32,
 }

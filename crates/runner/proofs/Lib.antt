@@ -1,0 +1,7 @@
+pub mod WaitCases
+pub mod Overlaps
+pub mod Loops
+pub mod EventCases
+pub mod Recorded
+pub mod MoveCases
+pub mod Neighbours
