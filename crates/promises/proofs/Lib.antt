@@ -1,0 +1,5 @@
+pub mod Ahead
+pub mod Stands
+pub mod Opens
+pub mod Ways
+pub mod Statements
