@@ -3,3 +3,5 @@ pub mod Stands
 pub mod Opens
 pub mod Ways
 pub mod Statements
+pub mod Joining
+pub mod Moves
