@@ -86,7 +86,7 @@ neighbours-few (w ∷ ws) = go (decoded w) (kind (decoded w)) (neighbours-few ws
 
 -- ---- their bytes
 
-end-rises : (ws : List ℕ) (at : ℕ) → at ≤ wordsEnd at ws
+pub end-rises : (ws : List ℕ) (at : ℕ) → at ≤ wordsEnd at ws
 unfolding wordsEnd
 end-rises [] at = le-refl at
 end-rises (w ∷ ws) at = omega (arith, end-rises ws (at + tests.bytesIn (decoded w)))

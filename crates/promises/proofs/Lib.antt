@@ -5,3 +5,6 @@ pub mod Ways
 pub mod Statements
 pub mod Joining
 pub mod Moves
+pub mod Waits
+pub mod Parts
+pub mod Accepting
