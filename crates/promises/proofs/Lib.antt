@@ -8,3 +8,7 @@ pub mod Moves
 pub mod Waits
 pub mod Parts
 pub mod Accepting
+pub mod Several
+pub mod Calling
+pub mod Quietly
+pub mod Demand3
