@@ -1,13 +1,13 @@
 -- What an accepted script's table has: for each process, cells that fit, loops that nest, and no run longer than the stretch reported. Assumes nothing.
-use mathlib.Core.Path.{_≡_, refl, sym, ap, subst, _∙_}
+use mathlib.Core.Path.{_≡_, refl, sym, ap, _∙_}
 use mathlib.Core.Bool.{Bool, true, false, cond, _&&_}
-use mathlib.Core.List.{List, [], _∷_, _++_}
-use Prim.Native.Nat.{ℕ, zero, suc, _+_, _-_, max, _≤_, _<_}
+use mathlib.Core.List.{List, [], _∷_}
+use Prim.Native.Nat.{ℕ, _≤_, _<_}
 use native.Mathlib.Nat.{le-refl, le-trans}
 use native.Mathlib.Omega.{arith}
 use lib.Dec.{ltb, leb, eqb}
-use lib.ListN.{length, getD, take, drop, replicate, length-append, length-replicate, length-take}
-use lib.Seq.{slice, getD-take}
+use lib.ListN.{length, take, drop, length-append, length-replicate, length-take}
+use lib.Seq.{getD-take}
 use borrow.Author.Tests.{ltb-true, leb-true, eqb-true}
 use Rattle.reader.specs.Bytes.{all}
 use Rattle.reader.proofs.Tests.{both-left, both-right, both, true-is-false}
@@ -26,7 +26,7 @@ use Rattle.language.specs.Stretch.{stretchOf, largestOf, largest}
 use Rattle.language.specs.Right as right
 use Rattle.language.specs.Right.{isByte, settingsRight, allBelow, scriptRight}
 use Rattle.language.specs.Draft.{Result, accepted, refused, resultOf}
-use Rattle.language.specs.Table.{padded, wordsFrom, endsFrom, headsOf, laidOut, scriptOf}
+use Rattle.language.specs.Table.{padded, wordsFrom, endsFrom, headsOf, laidOut}
 use Rattle.language.specs.Answer.{answered, scriptFrom, compiled}
 use Rattle.language.proofs.Good.{Good, good}
 use Rattle.language.proofs.Trip.{accepted-right}
@@ -40,7 +40,7 @@ use Rattle.stretch.proofs.Marking.{marks-between}
 use Rattle.stretch.proofs.Places.{measured-each}
 use Rattle.stretch.proofs.Verdicts.{Answers, measured-script, measured-right}
 use Rattle.accepted.specs.Accepted.{tableRight}
-use Rattle.accepted.specs.Tests.{zeros, wordsFit, wordsEnd, rising, lastEnd, endsOf, inUse, endsRight, cellsRight, settingsFit}
+use Rattle.accepted.specs.Tests.{zeros, wordsFit, wordsEnd, rising, endsOf, inUse, endsRight, cellsRight, settingsFit}
 use Rattle.accepted.proofs.Exactly.{script-of, laid-right}
 use Rattle.accepted.proofs.Laid.{laid-ends, laid-cells, laid-settings}
 use Rattle.promises.specs.Demand3.{Compiles, firstOf, endOf}

@@ -7,7 +7,7 @@ use native.Mathlib.Omega.{arith}
 use lib.ListN.{getD}
 use Rattle.figures.specs.Fragment.{Fragment}
 use Rattle.figures.specs.Flat.{Mark, here, beyond}
-use Rattle.figures.specs.Scan.{readAt, fragmentAt}
+use Rattle.figures.specs.Scan.{fragmentAt}
 use Rattle.figures.specs.Written.{Done, busy, sure, cut, times, repeated, written, run}
 use Rattle.figures.proofs.Growing.{Cut, finish, cuts, keeps, cut-append, cut-times, cut-written, cut-run}
 
@@ -63,5 +63,5 @@ pub enter : (k n l : ℕ) (b : Fragment) (zs : ℕ → List Done) → ((m : ℕ)
 unfolding repeated more times
 enter k n zero b zs h m =
     rw (append-assoc (times m (whole m b)), ← regroup (written m b) (times m (whole m b)) (cut ∷ zs m))
-    (le-trans (cut-run n (longer m b (zs m) (zs (suc m)))) (rw append-assoc at (h (suc m))))
+    (le-trans (cut-run n (longer m b (zs m) (zs (suc m)))) (rw (append-assoc (times (suc m) (whole (suc m) b))) at (h (suc m))))
 enter k n (suc l) b zs h m = rw (← regroup (written m b) (times l (whole m b)) (zs m)) (h m)

@@ -1,19 +1,17 @@
 -- Every call leaves the processes of an accepted script's table within their bounds, and none is answered 25. Assumes nothing.
-use mathlib.Core.Path.{_≡_, refl, sym, ap, _∙_}
-use mathlib.Core.Bool.{Bool, true, false, cond, _&&_}
-use mathlib.Core.List.{List, [], _∷_, map, append-nil}
-use Prim.Native.Nat.{ℕ, suc, _+_, _≤_, _<_}
+use mathlib.Core.Path.{_≡_, refl, sym, _∙_}
+use mathlib.Core.Bool.{Bool, true, false, cond}
+use mathlib.Core.List.{List, [], map, append-nil}
+use Prim.Native.Nat.{ℕ, suc, _+_, _<_}
 use native.Mathlib.Nat.{le-refl}
 use native.Mathlib.Decide.{ℕ-discrete}
 use native.Mathlib.Omega.{arith}
 use lib.Dec.{eqb, ltb, leb}
-use lib.ListN.{length, getD, set, replicate, length-set, length-map}
+use lib.ListN.{length, getD, set, length-set, length-map}
 use lib.Seq.{getD-set-same, getD-set-other}
 use borrow.Author.Tests.{ltb-true, le-leb, eq-eqb, ne-eqb}
 use Rattle.reader.proofs.Tests.{both, by-cases}
 use Rattle.figures.specs.Flat.{Mark}
-use Rattle.figures.specs.Scan.{readAt}
-use Rattle.figures.specs.Written.{run, longest}
 use Rattle.language.specs.declared.Heads.{Heads}
 use Rattle.language.specs.declared.Table.{Table}
 use Rattle.language.specs.declared.Cell.{Cell}
@@ -23,11 +21,9 @@ use Rattle.language.specs.Cell.{level}
 use Rattle.stretch.specs.Marks.{begins, stops}
 use Rattle.stretch.specs.Scan.{marksTo}
 use Rattle.stretch.proofs.Marking.{marks-length}
-use Rattle.accepted.specs.Accepted.{tableRight}
 use Rattle.runner.specs.declared.Reading.{Reading}
 use Rattle.runner.specs.declared.Process.{Process}
 use Rattle.runner.specs.declared.State.{State}
-use Rattle.runner.specs.declared.Moved.{Moved}
 use Rattle.runner.specs.declared.Refusal.{Refusal}
 use Rattle.runner.specs.declared.Refusal.the-variants.{Busy, BadReading, NoSuchSignal, SmallBuffer}
 use Rattle.runner.specs.declared.Received.the-variants as received
@@ -35,16 +31,16 @@ use Rattle.runner.specs.declared.Outcome.the-variants.{Quiet, Refused}
 use Rattle.runner.specs.declared.Event.{Event}
 use Rattle.runner.specs.declared.ByteEvent.{ByteEvent}
 use Rattle.runner.specs.declared.Drained.{Drained}
-use Rattle.runner.specs.Waiting.{ready, ticked, byteTaken, rangeRight, readingTaken, levelTaken}
+use Rattle.runner.specs.Waiting.{ticked, byteTaken, readingTaken, levelTaken}
 use Rattle.runner.specs.Recording.{copies}
 use Rattle.runner.specs.Events.{refusalNumber, every, busy, refused, took, withProcesses, tickEvent, readingRight, readingEvent, levelEvent, rangesRight, byteEvent}
 use Rattle.runner.specs.Moving.{moved, cellAt}
-use Rattle.runner.specs.Draining.{lowest, nobody, turn, outcomeOf, does, writes, stateAfter, unaltered, drained, countsAfter}
-use Rattle.runner.specs.Starting.{startAt, started, startedFrom, startState, noCounts}
+use Rattle.runner.specs.Draining.{lowest, nobody, turn, outcomeOf, writes, stateAfter, unaltered, drained}
+use Rattle.runner.specs.Starting.{startAt, started, startState, noCounts}
 use Rattle.runner.specs.Calls as calls
 use Rattle.runner.specs.Calls.{Box, Call, start, tick, byte, reading, drain, outcome, Called, boxed, answeredBy, receivedBy, startCall}
 use Rattle.promises.specs.Demand3.{called, outcomeNumber, replyNumber, did, tally, firstOf, endOf}
-use Rattle.promises.proofs.Ahead.{opensOf, onward, ahead}
+use Rattle.promises.proofs.Ahead.{opensOf, onward}
 use Rattle.promises.proofs.Stands.{Held, Good}
 use Rattle.promises.proofs.Ways.{awake-right, awake-fine}
 use Rattle.promises.proofs.Moves.{moved-good}

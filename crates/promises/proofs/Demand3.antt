@@ -1,15 +1,12 @@
 -- DEMAND 3: whatever calls follow a start, the processes of an accepted script's table stay within their bounds. Assumes nothing.
-use mathlib.Core.Path.{_≡_, refl, sym, ap, _∙_}
-use mathlib.Core.Bool.{Bool, true, false, cond}
+use mathlib.Core.Path.{_≡_, refl}
+use mathlib.Core.Bool.{true}
 use mathlib.Core.List.{List, [], _∷_}
-use Prim.Native.Nat.{ℕ, suc, _+_, _≤_, _<_}
+use Prim.Native.Nat.{ℕ}
 use native.Mathlib.Omega.{arith}
-use lib.Dec.{ltb}
-use lib.ListN.{length, getD}
+use lib.ListN.{getD}
 use borrow.Author.Tests.{le-ltb}
-use Rattle.reader.proofs.Tests.{true-is-false}
 use Rattle.language.specs.declared.Table.{Table}
-use Rattle.language.specs.Limits.{processLimit}
 use Rattle.stretch.specs.Scan.{marksTo}
 use Rattle.stretch.proofs.Marking.{marks-length}
 use Rattle.runner.specs.declared.Wait.{Wait}
@@ -18,12 +15,12 @@ use Rattle.runner.specs.declared.Process.{Process}
 use Rattle.runner.specs.Waiting.{readyWait}
 use Rattle.runner.specs.Draining.{nobody}
 use Rattle.runner.specs.Calls as calls
-use Rattle.runner.specs.Calls.{Box, Call, start, startCall}
+use Rattle.runner.specs.Calls.{Box, Call, startCall}
 use Rattle.promises.specs.Demand3.{Compiles, tally, Run, next, after, fresh, firstOf, endOf, Safe, Bounded}
 use Rattle.promises.proofs.Stands.{resting, Held}
 use Rattle.promises.proofs.Opens.{opens-length}
 use Rattle.promises.proofs.Accepting.{Fitting, fitting}
-use Rattle.promises.proofs.Calling.{All, Keeps, start-all, call-keeps}
+use Rattle.promises.proofs.Calling.{All, start-all, call-keeps}
 use Rattle.promises.proofs.Quietly.{quiet-exactly}
 
 -- what neither is ready nor rests is over

@@ -1,7 +1,7 @@
 -- One statement of the runner, on a process whose own cells fit: it is found in the table, and leaves the process within its bounds. Assumes nothing.
-use mathlib.Core.Path.{_≡_, refl, sym, ap, subst, _∙_}
-use mathlib.Core.Bool.{Bool, true, false, cond, _&&_}
-use mathlib.Core.List.{List, [], _∷_, map}
+use mathlib.Core.Path.{_≡_, refl, sym, subst, _∙_}
+use mathlib.Core.Bool.{Bool, true, false, cond}
+use mathlib.Core.List.{List, _∷_}
 use Prim.Native.Nat.{ℕ, zero, suc, _+_, _≤_, _<_}
 use native.Mathlib.Nat.{le-trans}
 use native.Mathlib.Numerals.{add-one}
@@ -10,8 +10,8 @@ use lib.Dec.{ltb, leb}
 use lib.ListN.{length, getD, take, drop}
 use lib.Seq.{slice, slice-cons, length-slice, getD-take, length-take-le, drop-drop}
 use borrow.Author.Tests.{eqb-true, lt-ltb, le-leb, ne-eqb}
-use Rattle.reader.proofs.Tests.{both-left, both-right, both, true-is-false, by-cases}
-use Rattle.figures.specs.Flat.{Mark, plain, sureRest, nests}
+use Rattle.reader.proofs.Tests.{both-left, both, true-is-false, by-cases}
+use Rattle.figures.specs.Flat.{Mark, plain, sureRest}
 use Rattle.figures.specs.Scan.{readAt, Stands}
 use Rattle.figures.specs.Written.{run}
 use Rattle.figures.proofs.Scanning.{stands-map}
@@ -32,8 +32,8 @@ use Rattle.runner.specs.declared.Wait.{Wait}
 use Rattle.runner.specs.declared.Wait.the-variants.{Ticks, Bytes, Data, ClockValue, Signal}
 use Rattle.runner.specs.declared.Process.{Process}
 use Rattle.runner.specs.Waiting.{ready, waitRight, progressRight, sameLevel}
-use Rattle.runner.specs.Moving.{passes, rests, restsAt, neighbours, theirBytes, awaits, restsUnless, signalled, behind, movedBy, cellAt, moved}
-use Rattle.promises.proofs.Ahead.{Open, opensOf, onward, ahead}
+use Rattle.runner.specs.Moving.{passes, rests, neighbours, theirBytes, awaits, restsUnless, signalled, behind, movedBy, moved}
+use Rattle.promises.proofs.Ahead.{Open, onward, ahead}
 use Rattle.promises.proofs.Stands.{Sits, resting, Held, Good}
 use Rattle.promises.proofs.Ways.{rests-good}
 use Rattle.promises.proofs.Statements.{loops, counts, passes-good, waits-good, sure-sits, sure-ahead, rest-good, opened-good, closed-good}

@@ -7,7 +7,7 @@ use native.Mathlib.Numerals.{add-one}
 use native.Mathlib.Omega.{arith}
 use lib.ListN.{getD, set, length}
 use lib.Seq.{getD-set-same, getD-set-other}
-use Rattle.promises.proofs.Ahead.{Open, opensOf}
+use Rattle.promises.proofs.Ahead.{opensOf}
 
 -- a store at or behind the depth changes no open loop
 past-left : (d e v : ℕ) (ls bs : List ℕ) → d ≤ e → opensOf d (set ls e v) bs ≡ opensOf d ls bs

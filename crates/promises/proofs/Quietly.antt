@@ -1,9 +1,8 @@
 -- A drain is answered quiet exactly when no process is ready and its buffer has room. Assumes nothing.
 use mathlib.Core.Path.{_≡_, refl, sym, ap, _∙_}
 use mathlib.Core.Bool.{Bool, true, false, cond}
-use mathlib.Core.List.{List, []}
-use Prim.Native.Nat.{ℕ, _≤_, _<_}
-use native.Mathlib.Omega.{arith}
+use mathlib.Core.List.{[]}
+use Prim.Native.Nat.{ℕ}
 use lib.Dec.{ltb}
 use lib.ListN.{length}
 use borrow.Author.Tests.{ltb-true, lt-ltb}
@@ -12,15 +11,13 @@ use Rattle.language.specs.declared.Table.{Table}
 use Rattle.language.specs.Limits.{processLimit}
 use Rattle.runner.specs.declared.State.{State}
 use Rattle.runner.specs.declared.Refusal.the-variants.{SmallBuffer, BadTable}
-use Rattle.runner.specs.declared.Outcome.{Outcome}
 use Rattle.runner.specs.declared.Outcome.the-variants.{Quiet, Refused}
 use Rattle.runner.specs.declared.Drained.{Drained}
-use Rattle.runner.specs.Waiting.{ready}
 use Rattle.runner.specs.Events.{busy}
 use Rattle.runner.specs.Moving.{moved, cellAt}
-use Rattle.runner.specs.Draining.{lowest, turn, outcomeOf, does, writes, unaltered, drained}
+use Rattle.runner.specs.Draining.{lowest, turn, does, writes, unaltered, drained}
 use Rattle.runner.specs.Calls as calls
-use Rattle.runner.specs.Calls.{Box, drain, Reply, outcome}
+use Rattle.runner.specs.Calls.{Box, drain, outcome}
 use Rattle.promises.specs.Demand3.{called, did, QuietExactly}
 use Rattle.promises.proofs.Several.{busy-lowest}
 use Rattle.promises.proofs.Calling.{outcome-did}

@@ -1,8 +1,8 @@
 -- A statement of a process within its bounds leaves it there, by the mark at its place: THE LAW of a step. Assumes nothing.
 use mathlib.Core.Path.{_≡_, refl, sym, ap, _∙_}
 use mathlib.Core.Bool.{Bool, true, false, cond}
-use mathlib.Core.List.{List, [], _∷_, _++_, append-assoc}
-use Prim.Native.Nat.{ℕ, zero, suc, _+_, _-_, _≤_, _<_}
+use mathlib.Core.List.{List, _∷_, _++_, append-assoc}
+use Prim.Native.Nat.{ℕ, zero, suc, _+_, _≤_, _<_}
 use native.Mathlib.Nat.{le-trans}
 use native.Mathlib.Numerals.{sub-one}
 use native.Mathlib.Omega.{arith}
@@ -20,7 +20,7 @@ use Rattle.language.specs.Limits.{loopLimit}
 use Rattle.runner.specs.declared.Wait.{Wait}
 use Rattle.runner.specs.declared.Process.{Process}
 use Rattle.runner.specs.Waiting.{readyWait, ready, waitRight}
-use Rattle.runner.specs.Moving.{passes, rests, opened, again, pass, closed}
+use Rattle.runner.specs.Moving.{passes, rests, opened, pass, closed}
 use Rattle.promises.proofs.Ahead.{Open, opensOf, more, whole, onward, ahead, run-less}
 use Rattle.promises.proofs.Stands.{Back, Kept, Sits, resting, Held, Good}
 use Rattle.promises.proofs.Opens.{opens-length, opens-more, opens-less}

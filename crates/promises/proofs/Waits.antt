@@ -1,10 +1,10 @@
 -- What each event does to a process leaves it within its bounds, and its count starts afresh. Assumes nothing.
-use mathlib.Core.Path.{_≡_, refl, sym, _∙_}
-use mathlib.Core.Bool.{Bool, true, false, cond, _&&_}
+use mathlib.Core.Path.{_≡_, refl}
+use mathlib.Core.Bool.{Bool, true, false, cond}
 use mathlib.Core.List.{List, [], _∷_, _++_}
-use Prim.Native.Nat.{ℕ, zero, suc, _+_, _-_, _≤_, _<_}
+use Prim.Native.Nat.{ℕ, zero, suc, _+_, _-_, _≤_}
 use native.Mathlib.Omega.{arith}
-use lib.Dec.{eqb, leb, ltb}
+use lib.Dec.{eqb, leb}
 use lib.ListN.{length, take, length-append, length-take}
 use borrow.Author.Tests.{ltb-true, lt-ltb, eqb-false}
 use Rattle.reader.specs.Bytes.{same}
@@ -20,7 +20,7 @@ use Rattle.runner.specs.declared.Process.{Process}
 use Rattle.runner.specs.Matching.{last, longest, progress, advance}
 use Rattle.runner.specs.Waiting.{awake, tickedWait, ticked, awaited, matchedTo, matchedWait, byteWait, byteTaken, progressRight, waitRight, matches, readingWait, readingTaken, sets, levelWait, levelTaken}
 use Rattle.promises.proofs.Ahead.{opensOf}
-use Rattle.promises.proofs.Stands.{resting, Fine, Held}
+use Rattle.promises.proofs.Stands.{resting, Held}
 use Rattle.promises.proofs.Ways.{awake-right, awake-fine, rest-fine}
 
 -- ---- one more byte matches at most one more

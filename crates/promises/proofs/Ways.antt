@@ -1,8 +1,8 @@
 -- The ways on of a process, each of which leaves it within its bounds: to a place, to a rest, into a pass of a loop. Assumes nothing.
-use mathlib.Core.Path.{_≡_, refl, sym, ap, _∙_}
+use mathlib.Core.Path.{_≡_, refl, sym, _∙_}
 use mathlib.Core.Bool.{Bool, true, false, cond}
-use mathlib.Core.List.{List, [], _∷_, _++_}
-use Prim.Native.Nat.{ℕ, zero, suc, _+_, _≤_, _<_}
+use mathlib.Core.List.{List, _∷_, _++_}
+use Prim.Native.Nat.{ℕ, suc, _+_, _≤_, _<_}
 use native.Mathlib.Nat.{le-trans}
 use native.Mathlib.Decide.{decLt}
 use native.Mathlib.Omega.{arith}
@@ -19,9 +19,9 @@ use Rattle.runner.specs.declared.Wait.{Wait}
 use Rattle.runner.specs.declared.Wait.the-variants.{Ready, Over, Ticks, Bytes, Data, ClockValue, Signal}
 use Rattle.runner.specs.declared.Process.{Process}
 use Rattle.runner.specs.Waiting.{readyWait, waitRight, awake}
-use Rattle.runner.specs.Moving.{movedTo, goes, again, restsAt}
+use Rattle.runner.specs.Moving.{goes, again, restsAt}
 use Rattle.promises.proofs.Ahead.{Open, opensOf, whole, onward, ahead, run-less, enter}
-use Rattle.promises.proofs.Stands.{Back, Kept, Sits, resting, Fine, Held, Good}
+use Rattle.promises.proofs.Stands.{Back, Kept, Sits, resting, Fine, Good}
 
 -- ---- ready at a place, or over
 
