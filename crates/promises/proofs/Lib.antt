@@ -12,3 +12,4 @@ pub mod Several
 pub mod Calling
 pub mod Quietly
 pub mod Demand3
+pub mod Reached
