@@ -1,0 +1,47 @@
+-- Demand 3 is not empty, and its bound is no larger than it must be: a script that compiles, and calls after which a process has done one statement
+-- more than the stretch that is reported. Assumes nothing.
+use mathlib.Core.Path.{_≡_, refl, ap, _∙_}
+use mathlib.Core.Bool.{true}
+use mathlib.Core.List.{List, [], _∷_}
+use Prim.Native.Nat.{ℕ}
+use Rattle.reader.specs.Ascii.{ascii}
+use Rattle.language.specs.declared.Table.{Table}
+use Rattle.language.specs.Right.{isByte}
+use Rattle.language.specs.Cell.{coded, cellOf, decoded}
+use Rattle.language.specs.Table.{cellFor, wordsFrom, poolOf, endsFrom, headsOf, laidOut}
+use Rattle.language.specs.Right.{timeRight}
+use Rattle.language.specs.Answer.{answered, compiled}
+use Rattle.language.proofs.Opened.{printed}
+use Rattle.accepted.specs.Accepted.{tableRight}
+use Rattle.runner.specs.Waiting.{awake}
+use Rattle.runner.specs.Moving.{restsUnless, movedBy, moved}
+use Rattle.runner.specs.Draining.{lowest, outcomeOf, drained, stateAfter}
+use Rattle.runner.specs.Starting.{started, startedFrom, startState, noCounts}
+use Rattle.runner.specs.Calls as calls
+use Rattle.runner.specs.Calls.{Box, Call, drain, boxed, startCall}
+use Rattle.promises.specs.Demand3.{Compiles, tally, Run, next, after, fresh}
+use Rattle.promises.proofs.Accepting.{fitting}
+
+-- NOP and a rest: the stretch is 1
+text : List ℕ
+text = ascii "#NOP\n#WAIT TIME\n"
+
+table : Table
+table = compiled text .table
+
+compiles : Compiles text table 1
+unfolding text table compiled printed isByte answered
+compiles = record { bytes = refl; result = refl }
+
+-- where a start is taken
+fresh-is : (t : Table) (b : Box) → tableRight t ≡ true → fresh t b ≡ record { box = boxed (startState (t .heads)) noCounts; done = λ i. 0 }
+unfolding fresh next tally calls.called startCall
+fresh-is t b e = rw e
+
+abbrev two : List Call
+two = drain 128 ∷ drain 128 ∷ []
+
+-- both are done, and the process rests
+reached : (b : Box) → after table (fresh table b) two .done 0 ≡ 2
+unfolding text table compiled printed answered laidOut headsOf wordsFrom poolOf endsFrom cellFor coded decoded cellOf timeRight after next tally calls.called startState startedFrom started awake drained lowest moved movedBy restsUnless outcomeOf stateAfter
+reached b = ap (λ (r : Run). after table r two .done 0) (fresh-is table b (fitting compiles .started)) ∙ refl

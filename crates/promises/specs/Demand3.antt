@@ -1,0 +1,143 @@
+-- Demand 3: "Take a script that was accepted, started afresh, with table and states handed on unaltered. Under every sequence of calls,
+-- refused ones among them, no process leaves its own statements, holds more than 8 open loops or is answered 25; and between a start,
+-- or an accepted event, and the next start or quiet moment no process does more than 4,097 statements." Assumes nothing: these are definitions.
+use mathlib.Core.Path.{_≡_}
+use mathlib.Core.Bool.{Bool, true, false, cond}
+use mathlib.Core.List.{List, [], _∷_}
+use Prim.Native.Nat.{ℕ, suc, _+_, _≤_, _<_}
+use lib.ListN.{getD}
+use lib.Dec.{eqb, ltb}
+use Rattle.reader.specs.Bytes.{all}
+use Rattle.figures.specs.Stretch.{over}
+use Rattle.language.specs.declared.Heads.{Heads}
+use Rattle.language.specs.declared.Table.{Table}
+use Rattle.language.specs.declared.Answer.the-variants.{Accepted}
+use Rattle.language.specs.Limits.{loopLimit, processLimit}
+use Rattle.language.specs.Right.{isByte}
+use Rattle.language.specs.Answer.{compiled}
+use Rattle.stretch.specs.Marks.{begins, stops}
+use Rattle.accepted.specs.Accepted.{tableRight}
+use Rattle.runner.specs.declared.Wait.the-variants.{Over}
+use Rattle.runner.specs.declared.Process.{Process}
+use Rattle.runner.specs.declared.State.{State}
+use Rattle.runner.specs.declared.Taken.{Taken}
+use Rattle.runner.specs.declared.Taken.the-variants as taken
+use Rattle.runner.specs.declared.Received.{Received}
+use Rattle.runner.specs.declared.Received.the-variants as received
+use Rattle.runner.specs.declared.Outcome.{Outcome}
+use Rattle.runner.specs.declared.Outcome.the-variants.{Quiet, Sent, Recorded, Rts, Fchange, Pause, Resume, Plain, Refused}
+use Rattle.runner.specs.Events.{refusalNumber, busy}
+use Rattle.runner.specs.Draining.{lowest, nobody}
+use Rattle.runner.specs.Calls as calls
+use Rattle.runner.specs.Calls.{Box, Call, start, drain, Reply, event, outcome, Called}
+
+-- "a script that was accepted": a text of bytes compiles to the table t, and k is the stretch that is reported
+pub record Compiles (text : List ℕ) (t : Table) (k : ℕ) : Type 0 where
+  pub bytes : all isByte text ≡ true
+  pub result : compiled text ≡ record { answer = Accepted k; table = t }
+
+-- a call of the runner, which starts a table exactly if some accepted script has it
+abbrev pub called : Table → Call → Box → Called
+called = calls.called tableRight
+
+-- ---- what a reply says
+
+-- "is answered 25": the number that a reply refuses by; 0 is no refusal
+abbrev pub takenNumber : Taken → ℕ
+takenNumber taken.Took = 0
+takenNumber (taken.Refused r) = refusalNumber r
+
+abbrev pub receivedNumber : Received → ℕ
+receivedNumber (received.Took c) = 0
+receivedNumber (received.Refused r) = refusalNumber r
+
+abbrev pub outcomeNumber : Outcome → ℕ
+outcomeNumber Quiet = 0
+outcomeNumber (Sent n) = 0
+outcomeNumber (Recorded n) = 0
+outcomeNumber (Rts s) = 0
+outcomeNumber Fchange = 0
+outcomeNumber Pause = 0
+outcomeNumber Resume = 0
+outcomeNumber Plain = 0
+outcomeNumber (Refused r) = refusalNumber r
+
+unfoldable pub replyNumber : Reply → ℕ
+replyNumber (event a) = takenNumber a
+replyNumber (calls.received a) = receivedNumber a
+replyNumber (outcome o bytes) = outcomeNumber o
+
+-- a drain did a statement
+abbrev pub did : Outcome → Bool
+did Quiet = false
+did (Sent n) = true
+did (Recorded n) = true
+did (Rts s) = true
+did Fchange = true
+did Pause = true
+did Resume = true
+did Plain = true
+did (Refused r) = false
+
+-- ---- the statements that each process has done since the last start or accepted event, by its number from 0
+
+abbrev pub afterTaken : Taken → ℕ → ℕ
+afterTaken taken.Took n = 0
+afterTaken (taken.Refused r) n = n
+
+abbrev pub afterReceived : Received → ℕ → ℕ
+afterReceived (received.Took c) n = 0
+afterReceived (received.Refused r) n = n
+
+-- "A drain does one statement of the lowest-numbered ready process"
+unfoldable pub tally : State → Reply → (ℕ → ℕ) → ℕ → ℕ
+tally s (event a) f i = afterTaken a (f i)
+tally s (calls.received a) f i = afterReceived a (f i)
+tally s (outcome o bytes) f i = cond (did o) (cond (eqb i (lowest (s .processes))) (suc (f i)) (f i)) (f i)
+
+-- ---- a sequence of calls
+
+-- a box, and beside it these counts
+pub record Run : Type 0 where
+  pub box : Box
+  pub done : ℕ → ℕ
+
+-- "with table and states handed on unaltered"
+unfoldable pub next : Table → Run → Call → Run
+next t r q = record { box = called t q (r .box) .box; done = tally (r .box .state) (called t q (r .box) .reply) (r .done) }
+
+unfoldable pub after : Table → Run → List Call → Run
+after t r [] = r
+after t r (q ∷ qs) = after t (next t r q) qs
+
+-- "started afresh", whatever the box held before
+unfoldable pub fresh : Table → Box → Run
+fresh t b = next t (record { box = b; done = λ i. 0 }) start
+
+-- ---- what holds after any of them
+
+-- a process's own statements lie from one place up to another; one that the table does not have has none
+abbrev pub firstOf : Heads → ℕ → ℕ
+firstOf h i = cond (ltb i (h .processes)) (begins h i) 0
+
+abbrev pub endOf : Heads → ℕ → ℕ
+endOf h i = cond (ltb i (h .processes)) (stops h i) 0
+
+-- process i, the stretch of the script being k and n the count of its statements
+pub record Safe (h : Heads) (k i n : ℕ) (p : Process) : Type 0 where
+  pub low : firstOf h i ≤ p .place
+  pub high : p .place ≤ endOf h i
+  pub few : p .depth ≤ loopLimit
+  pub brief : n ≤ over
+  pub exact : n ≤ k + 1
+  pub absent : h .processes ≤ i → p .wait ≡ Over
+
+-- "quiet exactly when none is ready"; "a quiet drain with a small buffer is 24"
+pub record QuietExactly (t : Table) (b : Box) (room : ℕ) : Type 0 where
+  pub only : called t (drain room) b .reply ≡ outcome Quiet [] → (busy (b .state) ≡ false) × (127 < room)
+  pub always : busy (b .state) ≡ false → 127 < room → called t (drain room) b .reply ≡ outcome Quiet []
+
+pub record Bounded (t : Table) (k : ℕ) (r : Run) : Type 0 where
+  pub safe : (i : ℕ) → i < processLimit → Safe (t .heads) k i (r .done i) (getD (r .box .state .processes) i nobody)
+  pub found : (q : Call) → replyNumber (called t q (r .box) .reply) ≡ 25 → ⊥
+  pub quiet : (room : ℕ) → QuietExactly t (r .box) room

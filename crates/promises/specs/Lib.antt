@@ -1,0 +1,2 @@
+-- What the demands come to, as claims over the definitions of the other crates.
+pub mod Demand3
