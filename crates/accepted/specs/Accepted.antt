@@ -11,11 +11,13 @@ use Rattle.language.specs.Stretch.{stretchOf}
 use Rattle.language.specs.Right.{scriptRight}
 use Rattle.language.specs.Table.{laidOut, scriptOf}
 
+-- two flags agree
 abbrev pub sameFlag : Bool → Bool → Bool
 sameFlag true b = b
 sameFlag false true = false
 sameFlag false false = true
 
+-- two heads agree in every field
 unfoldable pub sameHeads : Heads → Heads → Bool
 sameHeads h k =
     eqb (h .processes) (k .processes)
@@ -27,8 +29,10 @@ sameHeads h k =
     && (eqb (h .omits) (k .omits)
     && (same (h .omit) (k .omit) && same (h .extension) (k .extension))))))))
 
+-- two tables agree in every cell, every byte and their heads
 unfoldable pub sameTable : Table → Table → Bool
 sameTable t u = same (t .cells) (u .cells) && (same (t .pool) (u .pool) && sameHeads (t .heads) (u .heads))
 
+-- some accepted script has this table: the one it reads as is right, and laid out it is this very table
 unfoldable pub tableRight : Table → Bool
 tableRight t = sameTable (laidOut (scriptOf t)) t && scriptRight stretchOf (scriptOf t)

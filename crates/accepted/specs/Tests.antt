@@ -69,6 +69,7 @@ unfoldable pub wordsFit : List ℕ → ℕ → List ℕ → Bool
 wordsFit pool at [] = true
 wordsFit pool at (w ∷ ws) = cellFits pool at (decoded w) && wordsFit pool (at + bytesIn (decoded w)) ws
 
+-- where the data of some words end
 unfoldable pub wordsEnd : ℕ → List ℕ → ℕ
 wordsEnd at [] = at
 wordsEnd at (w ∷ ws) = wordsEnd (at + bytesIn (decoded w)) ws
@@ -78,10 +79,12 @@ unfoldable pub rising : ℕ → List ℕ → Bool
 rising i [] = true
 rising i (e ∷ es) = leb i e && (leb e linesLimit && rising e es)
 
+-- where the last process ends
 unfoldable pub lastEnd : ℕ → List ℕ → ℕ
 lastEnd i [] = i
 lastEnd i (e ∷ es) = lastEnd e es
 
+-- the ends of the processes in use
 abbrev pub endsOf : Heads → List ℕ
 endsOf h = take (h .processes) (h .ends)
 
@@ -89,10 +92,12 @@ endsOf h = take (h .processes) (h .ends)
 abbrev pub inUse : Heads → ℕ
 inUse h = lastEnd 0 (endsOf h)
 
+-- 1 to 8 processes, whose ends go up within the cells
 unfoldable pub endsRight : Heads → Bool
 endsRight h =
     leb 1 (h .processes) && (leb (h .processes) processLimit && (rising 0 (endsOf h) && zeros (drop (h .processes) (h .ends))))
 
+-- the cells in use fit their data, and what is not in use is zero
 unfoldable pub cellsRight : List ℕ → List ℕ → Heads → Bool
 cellsRight cells pool h =
     wordsFit pool 0 (take (inUse h) cells)
@@ -107,6 +112,7 @@ settingsFit h =
     && (zeros (drop (h .omits) (h .omit))
     && (extension (lettersOf (h .extension)) && zeros (drop (length (lettersOf (h .extension))) (h .extension)))))
 
+-- a line that stands there or not
 abbrev pub one : Bool → ℕ
 one true = 1
 one false = 0
@@ -120,6 +126,7 @@ unfoldable pub settingsIn : Heads → ℕ
 settingsIn h =
     one (h .encodes) + (one (h .«two_stop_bits») + (one (ltb 0 (h .omits)) + one (not (same (lettersOf (h .extension)) (ascii "LOG")))))
 
+-- how many lines the listing of a table has
 unfoldable pub linesIn : Heads → ℕ
 linesIn h = settingsIn h + (one (firstEmpty h) + (inUse h + (h .processes - 1)))
 

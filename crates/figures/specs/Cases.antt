@@ -39,6 +39,7 @@ pub record Case : Type 0 where
   pub process : List Mark
   pub stretch : ℕ
 
+-- the cases of document 01 about stretches
 abbrev pub cases : List Case
 cases =
     -- "#LOOP 2047, /A, #END: stretch 4,095, accepted"

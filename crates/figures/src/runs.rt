@@ -6,42 +6,42 @@ ghost use Rattle.figures.specs.Figures.{cap};
 use crate::OVER;
 
 // The run x, capped.
-pub fn held(x: u32) -> u32
+pub(crate) fn held(x: u32) -> u32
     ensures { λ r. ⌜ r ≡ cap x ⌝ }
 {
     if x < OVER { x } else { OVER }
 }
 
 // The capped run of two runs that meet.
-pub fn meet(x: u32, y: u32) -> u32
+pub(crate) fn meet(x: u32, y: u32) -> u32
     ensures { λ r. ⌜ r ≡ cap (x + y) ⌝ }
 {
     held(held(x) + held(y))
 }
 
 // The capped run of n runs of x that meet.
-pub fn product(n: u32, x: u32) -> u32
+pub(crate) fn product(n: u32, x: u32) -> u32
     ensures { λ r. ⌜ r ≡ cap (n * x) ⌝ }
 {
     held(held(n) * held(x))
 }
 
 // The larger of two runs.
-pub fn larger(x: u32, y: u32) -> u32
+pub(crate) fn larger(x: u32, y: u32) -> u32
     ensures { λ r. ⌜ r ≡ max x y ⌝ }
 {
     if x < y { y } else { x }
 }
 
 // The run x if t holds, else y.
-pub fn choose(t: bool, x: u32, y: u32) -> u32
+pub(crate) fn choose(t: bool, x: u32, y: u32) -> u32
     ensures { λ r. ⌜ r ≡ cond t x y ⌝ }
 {
     if t { x } else { y }
 }
 
 // Whether one of the two holds.
-pub fn either(s: bool, t: bool) -> bool
+pub(crate) fn either(s: bool, t: bool) -> bool
     ensures { λ r. ⌜ r ≡ (s || t) ⌝ }
 {
     if s { true } else { t }

@@ -34,5 +34,6 @@ answered (refused f row) = record { answer = Refused f row; table = zeros }
 unfoldable pub scriptFrom : List ℕ → Result
 scriptFrom text = resultOf stretchOf text
 
+-- the compiler's answer for every text
 unfoldable pub compiled : List ℕ → Compiled
 compiled text = answered (scriptFrom text)

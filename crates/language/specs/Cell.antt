@@ -13,21 +13,26 @@ use Rattle.language.specs.Limits.{dataLimit, sendRoom, waitRoom, logRoom
 use Rattle.language.specs.Clock.{Range, range, within}
 use Rattle.language.specs.Right.{timeRight}
 
+-- a range of the pool, a level and a clock value, by their parts
 abbrev pub span : ℕ → ℕ → Span
 span from count = record { from = from; count = count }
 
+-- a signal, 0 for CTS and 1 to 4 for EX, and its level
 abbrev pub level : ℕ → Bool → Level
 level n on = record { signal = n; on = on }
 
+-- a clock value: how many units are fixed, and each of them
 abbrev pub clock : ℕ → ℕ → ℕ → ℕ → ℕ → Clock
 clock fixed day hour minute second = record { fixed = fixed; day = day; hour = hour; minute = minute; second = second }
 
+-- a level as a digit
 abbrev pub bit : Bool → ℕ
 bit true = 1
 bit false = 0
 
 -- ---- the word of a cell
 
+-- the number of each kind of cell
 abbrev pub kindOf : Cell → ℕ
 kindOf Nothing = 0
 kindOf (Send s) = 1
@@ -54,6 +59,7 @@ spanNumber s = s .from * 128 + s .count
 unfoldable pub clockNumber : Clock → ℕ
 clockNumber c = c .fixed * 4194304 + (c .day * 131072 + (c .hour * 4096 + (c .minute * 64 + c .second)))
 
+-- what a cell has besides its kind
 abbrev pub argumentOf : Cell → ℕ
 argumentOf Nothing = 0
 argumentOf (Send s) = spanNumber s
@@ -72,6 +78,7 @@ argumentOf Resume = 0
 argumentOf Nop = 0
 argumentOf Unknown = 0
 
+-- the kind in the top 6 bits, the argument below 2^26
 unfoldable pub coded : Cell → ℕ
 coded c = kindOf c * 67108864 + argumentOf c % 67108864
 
@@ -86,6 +93,7 @@ unfoldable pub unitRight : Bool → Range → ℕ → Bool
 unitRight true r v = within r v
 unitRight false r v = eqb v 0
 
+-- "D 01 to 31, h to 23, m and s to 59", for the units that are fixed
 unfoldable pub fixedRight : Clock → Bool
 fixedRight c =
     leb (c .fixed) 4
@@ -94,6 +102,7 @@ fixedRight c =
     && (unitRight (leb 2 (c .fixed)) (range 0 59) (c .minute)
     && unitRight (leb 1 (c .fixed)) (range 0 59) (c .second))))
 
+-- the ranges that the section "Lines" gives each statement
 unfoldable pub cellRight : Cell → Bool
 cellRight Nothing = true
 cellRight (Send s) = spanRight 0 sendRoom s
@@ -118,12 +127,15 @@ cellRight Unknown = false
 abbrev pub when : Bool → Cell → Cell
 when ok c = cond ok c Unknown
 
+-- a range back from its number
 abbrev pub spanOf : ℕ → Span
 spanOf a = span (a / 128) (a % 128)
 
+-- a clock value back from its number
 abbrev pub clockOfNumber : ℕ → Clock
 clockOfNumber a = clock (a / 4194304) (a / 131072 % 32) (a / 4096 % 32) (a / 64 % 64) (a % 64)
 
+-- the cell of a kind and an argument: none but `cellRight` ones
 unfoldable pub cellOf : ℕ → ℕ → Cell
 cellOf kind a =
     cond (eqb kind 0) (when (eqb a 0) Nothing)
@@ -142,11 +154,13 @@ cellOf kind a =
     (cond (eqb kind 13) (when (eqb a 0) Resume)
     (cond (eqb kind 14) (when (eqb a 0) Nop) Unknown))))))))))))))
 
+-- what every word says; Unknown where no line has such a cell
 unfoldable pub decoded : ℕ → Cell
 decoded w = cellOf (w / 67108864) (w % 67108864)
 
 -- ---- clock values as lists of the fixed units
 
+-- the values of the fixed units, the longest first, as a clock value
 unfoldable pub clockFrom : List ℕ → Clock
 clockFrom [] = clock 0 0 0 0 0
 clockFrom (s ∷ []) = clock 1 0 0 0 s
@@ -154,5 +168,6 @@ clockFrom (m ∷ s ∷ []) = clock 2 0 0 m s
 clockFrom (h ∷ m ∷ s ∷ []) = clock 3 0 h m s
 clockFrom (d ∷ h ∷ m ∷ s ∷ more) = clock 4 d h m s
 
+-- and back
 unfoldable pub fixedUnits : Clock → List ℕ
 fixedUnits c = drop (4 - c .fixed) (c .day ∷ c .hour ∷ c .minute ∷ c .second ∷ [])

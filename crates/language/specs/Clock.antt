@@ -17,9 +17,11 @@ pub record Range : Type 0 where
   pub low : ℕ
   pub high : ℕ
 
+-- a range by its bounds
 abbrev pub range : ℕ → ℕ → Range
 range a e = record { low = a; high = e }
 
+-- a value in a range
 unfoldable pub within : Range → ℕ → Bool
 within r v = leb (r .low) v && leb v (r .high)
 
@@ -27,12 +29,15 @@ within r v = leb (r .low) v && leb v (r .high)
 abbrev pub secondOn : List Range
 secondOn = range 0 59 ∷ []
 
+-- "m and s to 59"
 abbrev pub minuteOn : List Range
 minuteOn = range 0 59 ∷ secondOn
 
+-- "h to 23"
 abbrev pub hourOn : List Range
 hourOn = range 0 23 ∷ minuteOn
 
+-- "D 01 to 31"
 abbrev pub dayOn : List Range
 dayOn = range 1 31 ∷ hourOn
 
@@ -67,6 +72,7 @@ unfoldable pub inTwos : List ℕ → List ℕ
 inTwos [] = []
 inTwos (v ∷ vs) = twoDigits v ++ inTwos vs
 
+-- "the first fixed unit", `s` where none is fixed
 unfoldable pub clockLetter : List ℕ → ℕ
 clockLetter [] = 115
 clockLetter (s ∷ []) = 115
@@ -74,5 +80,6 @@ clockLetter (m ∷ s ∷ []) = 109
 clockLetter (h ∷ m ∷ s ∷ []) = 104
 clockLetter (d ∷ h ∷ m ∷ s ∷ more) = 68
 
+-- the letter, then two digits for each fixed unit
 unfoldable pub clockText : List ℕ → List ℕ
 clockText vs = clockLetter vs ∷ inTwos vs

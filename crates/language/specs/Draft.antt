@@ -28,9 +28,11 @@ pub record Draft : Type 0 where
   pub settings : Settings
   pub body : List Item
 
+-- before the first line: one process, nothing used
 unfoldable pub start : Draft
 start = record { counted = 0; used = 0; loops = []; count = 1; begun = false; settings = default; body = [] }
 
+-- a line is taken, or "the first faulty line" ends it all
 pub data Taken : Type 0 where
   going : Draft → Taken
   stop : Fault → ℕ → Taken
@@ -45,6 +47,7 @@ unfoldable pub withSettings : Draft → Settings → Draft
 withSettings st s =
     record { counted = st .counted; used = st .used; loops = st .loops; count = st .count; begun = st .begun; settings = s; body = st .body }
 
+-- one more statement, its data used
 unfoldable pub withItem : Draft → List ℕ → Statement → Draft
 withItem st loops s =
     record {
@@ -62,12 +65,14 @@ pub data Nested : Type 0 where
   now : List ℕ → Nested
   broken : Fault → Nested
 
+-- "8 loops deep"; LOOP opens one with its line, END closes the innermost
 unfoldable pub nest : ℕ → Shape → List ℕ → Nested
 nest row stays ls = now ls
 nest row opens ls = cond (ltb (length ls) loopLimit) (now (row ∷ ls)) (broken TooManyLoops)
 nest row closes [] = broken EndWithoutLoop
 nest row closes (l ∷ ls) = now ls
 
+-- the statement is taken unless its loop is at fault
 unfoldable pub takeNested : ℕ → Draft → Statement → Nested → Taken
 takeNested row st s (now ls) = going (withItem st ls s)
 takeNested row st s (broken n) = stop n row
@@ -90,6 +95,7 @@ withNext st =
       body = st .body ++ next ∷ [];
     }
 
+-- "begins the first process": nothing but that it has begun
 unfoldable pub withFirst : Draft → Draft
 withFirst st =
     record { counted = st .counted; used = st .used; loops = []; count = st .count; begun = true; settings = st .settings; body = st .body }
@@ -98,11 +104,12 @@ withFirst st =
 unfoldable pub beginning : ℕ → Draft → Taken
 beginning row st = cond (st .begun) (cond (ltb (st .count) processLimit) (going (withNext st)) (stop TooManyProcesses row)) (going (withFirst st))
 
--- "loop open at a PROCESS line: line of the innermost" 8, "ninth process" 9
+-- "loop open at a PROCESS line or the end of text: line of the innermost" 8, "ninth process" 9
 unfoldable pub takeProcess : ℕ → Draft → List ℕ → Taken
 takeProcess row st [] = beginning row st
 takeProcess row st (l ∷ ls) = stop LoopLeftOpen l
 
+-- "OMIT over 10" 10; "several lines add up"
 unfoldable pub takeOmit : ℕ → Draft → Settings → List ℕ → Taken
 takeOmit row st s bs =
     cond (leb (length (s .omit ++ bs)) omitLimit)
@@ -129,6 +136,7 @@ take row st (fault n) = stop n row
 unfoldable pub takeCounted : ℕ → Draft → Meaning → Taken
 takeCounted row st m = cond (ltb (st .counted) linesLimit) (take row (countLine st) m) (stop TooManyLines row)
 
+-- "At most 512 lines besides comments"
 unfoldable pub isComment : Meaning → Bool
 isComment comment = true
 isComment blank = false
@@ -158,10 +166,12 @@ module _ (stretch : List Statement → ℕ) where
   stretched [] number s = accepted s
   stretched (p ∷ ps) number s = cond (leb (stretch p) limit) (stretched ps (number + 1) s) (refused StretchTooLong number)
 
+  -- "The end of the text comes after all lines, 11 last"
   unfoldable pub finished : Script → List ℕ → Result
   finished s [] = stretched (processes (s .body)) 1 s
   finished s (l ∷ ls) = refused LoopLeftOpen l
 
+  -- the lines one after the other, `row` being the number of the next
   unfoldable pub fold : List (List ℕ) → ℕ → Draft → Result
   fold [] row st = finished (record { settings = st .settings; body = st .body }) (st .loops)
   fold (l ∷ ls) row st = after (takeLine row st l) (λ st₁. fold ls (row + 1) st₁)

@@ -9,6 +9,7 @@ pub data Awaits : Type 0 where
   bytes : List ℕ → Awaits
   nothing : Awaits
 
+-- WAIT DATA alone has such data
 unfoldable pub awaits : Statement → Awaits
 awaits (send bs) = nothing
 awaits (loop n) = nothing
@@ -41,5 +42,6 @@ unfoldable pub joinedIn : List Statement → List Statement
 joinedIn [] = []
 joinedIn (s ∷ ss) = joinTo s (joinedIn ss)
 
+-- "in one process": joined within each, never across a PROCESS line
 unfoldable pub done : List Item → List (List Statement)
 done body = map joinedIn (processes body)

@@ -33,8 +33,10 @@ processLimit = 8
 abbrev pub sendRoom : ℕ
 sendRoom = 126
 
+-- 127 less `#WAIT DATA ` and the mark
 abbrev pub waitRoom : ℕ
 waitRoom = 115
 
+-- 127 less `#LOG `
 abbrev pub logRoom : ℕ
 logRoom = 122

@@ -20,6 +20,7 @@ unfoldable pub rawLines : List ℕ → List (List ℕ)
 rawLines [] = []
 rawLines (b ∷ s) = cond (eqb b 10) ([] ∷ rawLines s) (inFront b (rawLines s))
 
+-- the CR dropped from each line
 unfoldable pub eachLine : List (List ℕ) → List (List ℕ)
 eachLine [] = []
 eachLine (l ∷ ls) = dropCr l ∷ eachLine ls

@@ -12,14 +12,16 @@ use Rattle.language.specs.Limits.{sendRoom, waitRoom}
 use Rattle.language.specs.Clock.{clockText}
 use Rattle.language.specs.Script.{Statement, send, loop, end, waitTime, waitData, waitByte, waitClock, waitSignal, rts, log, fchange, pause, resume, nop, Encode, unset, byte, Settings, Item, does, next, Script}
 
--- "Data in hex where a byte lies outside 20h to 7Eh and the line fits in 127; else text": `room` is what the line has left
+-- "Data in hex .. where a byte lies outside 20h to 7Eh and the line fits in 127; else text": `room` is what the line has left
 -- after the mark
 unfoldable pub isPlain : ℕ → Bool
 isPlain b = leb 32 b && leb b 126
 
+-- "where a byte lies outside 20h to 7Eh and the line fits in 127"
 unfoldable pub inHex : ℕ → List ℕ → Bool
 inHex room bs = not (all isPlain bs) && leb (length bs * 2) room
 
+-- "Data in hex", behind `:`, "else text", behind `/`
 unfoldable pub dataText : ℕ → List ℕ → List ℕ
 dataText room bs = cond (inHex room bs) (58 ∷ hexText bs) (47 ∷ bs)
 
@@ -31,10 +33,12 @@ countText n = cond (eqb n 0) (ascii "EVER") (decimal n)
 unfoldable pub timeText : ℕ → List ℕ
 timeText n = cond (leb n 60000) (decimal n ++ ascii "MS") (decimal (n / 1000) ++ ascii "S")
 
+-- a level, as the names have it
 unfoldable pub onText : Bool → List ℕ
 onText true = ascii "ON"
 onText false = ascii "OFF"
 
+-- CTS, or EX and its number
 unfoldable pub signalText : ℕ → List ℕ
 signalText n = cond (eqb n 0) (ascii "CTS") (69 ∷ 88 ∷ (48 + n) ∷ [])
 
@@ -43,6 +47,7 @@ unfoldable pub logText : List ℕ → List ℕ
 logText [] = ascii "#LOG"
 logText (b ∷ text) = ascii "#LOG " ++ b ∷ text
 
+-- "One line per written statement line"
 unfoldable pub lineFor : Statement → List ℕ
 lineFor (send bs) = dataText sendRoom bs
 lineFor (loop n) = ascii "#LOOP " ++ countText n
@@ -64,6 +69,7 @@ unfoldable pub itemLine : Item → List ℕ
 itemLine (does s) = lineFor s
 itemLine next = ascii "#PROCESS"
 
+-- a line for each item
 unfoldable pub itemLines : List Item → List (List ℕ)
 itemLines [] = []
 itemLines (i ∷ is) = itemLine i ∷ itemLines is
@@ -79,10 +85,12 @@ abbrev pub when : Bool → List ℕ → List (List ℕ)
 when true l = l ∷ []
 when false l = []
 
+-- "`#f:ENCODE :hh` (capital digits)"
 unfoldable pub encodeLines : Encode → List (List ℕ)
 encodeLines unset = []
 encodeLines (byte b) = (ascii "#f:ENCODE :" ++ hexText (b ∷ [])) ∷ []
 
+-- ENCODE, STOPBITS, OMIT, LFEXT, each "if not default"
 unfoldable pub settingLines : Settings → List (List ℕ)
 settingLines s =
     encodeLines (s .encode)
@@ -90,12 +98,15 @@ settingLines s =
     ++ (when (not (same (s .omit) [])) (ascii "#f:OMIT :" ++ hexText (s .omit))
     ++ when (not (same (s .lfext) (ascii "LOG"))) (ascii "#f:LFEXT " ++ (s .lfext))))
 
+-- the f: lines "First", then the body
 unfoldable pub listedLines : Script → List (List ℕ)
 listedLines s = settingLines (s .settings) ++ bodyLines (s .body)
 
+-- "CR LF after each line"
 unfoldable pub joined : List (List ℕ) → List ℕ
 joined [] = []
 joined (l ∷ ls) = l ++ 13 ∷ 10 ∷ joined ls
 
+-- the listing of a script
 unfoldable pub listing : Script → List ℕ
 listing s = joined (listedLines s)

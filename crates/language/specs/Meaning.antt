@@ -48,15 +48,17 @@ timeIn unit v =
     (cond (same unit (ascii "S") || same unit []) (says (waitTime (v * 1000)))
     (checked (same unit (ascii "M") && leb v 999) (says (waitTime (v * 60000)))))
 
--- "number and MS, S or M; no number is 1"; "Number and unit touch"
+-- "no number is 1"; "Number and unit touch"
 unfoldable pub timeBy : List ℕ → Number → Meaning
 timeBy a (Value v next) = timeIn (drop next a) v
 timeBy a (Bad zero) = timeIn a 1
 timeBy a (Bad (suc at)) = fault BadRest
 
+-- "`#WAIT TIME`: number and MS (0 to 60000), S (0 to 60000) or M (0 to 999)"
 unfoldable pub timeOf : List ℕ → Meaning
 timeOf a = timeBy a (numberAt 5 60000 a 0)
 
+-- "`#WAIT CLOCK`", its values read or at fault
 unfoldable pub clockSays : Said → Meaning
 clockSays (good vs) = says (waitClock vs)
 clockSays (bad at) = fault BadRest
@@ -106,10 +108,12 @@ unfoldable pub encodeHex : Number → Meaning
 encodeHex (Value b next) = setEncode b
 encodeHex (Bad at) = fault BadRest
 
+-- "`/` then a byte"
 unfoldable pub encodeByte : List ℕ → Meaning
 encodeByte [] = fault BadRest
 encodeByte (b ∷ l) = setEncode b
 
+-- "`#f:ENCODE` one byte"
 unfoldable pub encodeOf : List ℕ → Meaning
 encodeOf [] = fault BadRest
 encodeOf (b ∷ l) = cond (eqb b 58) (encodeHex (hexByteAt l 0)) (cond (eqb b 47) (encodeByte l) (setEncode b))
@@ -122,16 +126,20 @@ stopbitsOf a = setStopbits (same a (ascii "2"))
 unfoldable pub isCapital : ℕ → Bool
 isCapital b = (leb 48 b && leb b 57) || (leb 65 b && leb b 90)
 
+-- "made capital"
 unfoldable pub raised : ℕ → ℕ
 raised b = cond (leb 97 b && leb b 122) (b - 32) b
 
+-- each letter "made capital"
 unfoldable pub raise : List ℕ → List ℕ
 raise [] = []
 raise (b ∷ l) = raised b ∷ raise l
 
+-- "1 to 3 letters or digits"
 unfoldable pub extension : List ℕ → Bool
 extension l = ltb 0 (length l) && leb (length l) 3 && all isCapital l
 
+-- "`#f:LFEXT` 1 to 3 letters or digits, made capital"
 unfoldable pub lfextOf : List ℕ → Meaning
 lfextOf a = checked (extension (raise a)) (setLfext (raise a))
 
@@ -141,10 +149,12 @@ exIn a = checked (same a (ascii "IN")) setEx
 
 -- ---- names
 
+-- a name, and what reads the rest behind it
 pub record Entry : Type 0 where
   pub word : List ℕ
   pub reader : List ℕ → Meaning
 
+-- an entry by its parts
 abbrev pub entry : List ℕ → (List ℕ → Meaning) → Entry
 entry w r = record { word = w; reader = r }
 
@@ -156,9 +166,11 @@ lookup (e ∷ es) w rest =
     let further = lookup es w rest in
     cond (same (e .word) w) here further
 
+-- "`#WAIT CTSON`, `CTSOFF`, `EX1ON` to `EX4OFF`"
 unfoldable pub signal : ℕ → Bool → List ℕ → Meaning
 signal n on rest = bare (says (waitSignal n on)) rest
 
+-- the second words behind `#WAIT`
 unfoldable pub waits : List Entry
 waits =
     entry (ascii "TIME") (λ rest. timeOf (argument rest))
@@ -181,6 +193,7 @@ waits =
 unfoldable pub waitOf : List ℕ → Meaning
 waitOf l = lookup waits (wordOf l) (afterWord l)
 
+-- the names that begin a line
 unfoldable pub names : List Entry
 names =
     entry (ascii "#LOOP") (λ rest. loopOf (argument rest))
@@ -203,6 +216,7 @@ names =
     ∷ entry (ascii "#f:LFEXT") (λ rest. lfextOf (argument rest))
     ∷ []
 
+-- "names are whole words": the first word of the line decides
 unfoldable pub named : List ℕ → Meaning
 named l = lookup names (wordOf l) (afterWord l)
 

@@ -12,6 +12,7 @@ use Rattle.language.specs.Script.{Statement, send, loop, end, waitTime, 
 use Rattle.language.specs.Meaning.{signs, extension}
 use Rattle.language.specs.Listing.{listedLines}
 
+-- a byte is below 256
 unfoldable pub isByte : ℕ → Bool
 isByte b = ltb b 256
 
@@ -27,12 +28,14 @@ dataRight room bs = all isByte bs && (leb (length bs * 2) room || (leb (length b
 unfoldable pub timeRight : ℕ → Bool
 timeRight n = leb n 60000 || (eqb (n % 1000) 0 && leb n 60000000)
 
+-- a value for each range, in it
 unfoldable pub inRanges : List Range → List ℕ → Bool
 inRanges [] [] = true
 inRanges [] (v ∷ vs) = false
 inRanges (r ∷ rs) [] = false
 inRanges (r ∷ rs) (v ∷ vs) = within r v && inRanges rs vs
 
+-- "D 01 to 31, h to 23, m and s to 59", by how many units are fixed
 unfoldable pub clockRight : List ℕ → Bool
 clockRight [] = true
 clockRight (s ∷ []) = inRanges secondOn (s ∷ [])
@@ -40,9 +43,11 @@ clockRight (m ∷ s ∷ []) = inRanges minuteOn (m ∷ s ∷ [])
 clockRight (h ∷ m ∷ s ∷ []) = inRanges hourOn (h ∷ m ∷ s ∷ [])
 clockRight (d ∷ h ∷ m ∷ s ∷ more) = inRanges dayOn (d ∷ h ∷ m ∷ s ∷ more)
 
+-- text that a LOG line has room for, with no other sign
 unfoldable pub logRight : List ℕ → Bool
 logRight text = leb (length text) logRoom && (signs text false && all inLine text)
 
+-- the statements that some line says
 unfoldable pub right : Statement → Bool
 right (send bs) = dataRight sendRoom bs
 right (loop n) = leb n 60000
@@ -74,6 +79,7 @@ meaningRight (fault n) = true
 
 -- ---- scripts
 
+-- "`#f:ENCODE` one byte", or none
 unfoldable pub encodeRight : Encode → Bool
 encodeRight unset = true
 encodeRight (byte b) = isByte b
@@ -82,6 +88,7 @@ encodeRight (byte b) = isByte b
 unfoldable pub settingsRight : Settings → Bool
 settingsRight s = encodeRight (s .encode) && (all isByte (s .omit) && (leb (length (s .omit)) omitLimit && extension (s .lfext)))
 
+-- every statement of a body
 unfoldable pub allRight : List Item → Bool
 allRight [] = true
 allRight (does s ∷ is) = right s && allRight is
@@ -105,16 +112,19 @@ mayNest stays depth = true
 mayNest opens depth = ltb depth loopLimit
 mayNest closes depth = ltb 0 depth
 
+-- how many loops are open after a statement
 unfoldable pub depthAfter : Shape → ℕ → ℕ
 depthAfter stays depth = depth
 depthAfter opens depth = depth + 1
 depthAfter closes depth = depth - 1
 
+-- each END has its LOOP in its own process, and each LOOP its END
 unfoldable pub nests : List Item → ℕ → Bool
 nests [] depth = eqb depth 0
 nests (does s ∷ is) depth = mayNest (shape s) depth && nests is (depthAfter (shape s) depth)
 nests (next ∷ is) depth = eqb depth 0 && nests is 0
 
+-- "stretch over 4,096" 11: no process is
 unfoldable pub allBelow : (List Statement → ℕ) → List (List Statement) → Bool
 allBelow stretch [] = true
 allBelow stretch (p ∷ ps) = leb (stretch p) limit && allBelow stretch ps

@@ -5,6 +5,7 @@ use mathlib.Core.List.{List, [], _∷_}
 use Rattle.reader.specs.Ascii.{ascii}
 use Rattle.language.specs.declared.Fault.{Fault}
 
+-- the fourteen statements of the section "Lines"
 pub data Statement : Type 0 where
   send : List ℕ → Statement  -- the bytes
   loop : ℕ → Statement  -- how often, 0 is forever
@@ -22,6 +23,7 @@ pub data Statement : Type 0 where
 pub data Shape : Type 0 where
   opens closes stays : Shape
 
+-- LOOP opens, END closes, no other statement does either
 unfoldable pub shape : Statement → Shape
 shape (send bs) = stays
 shape (loop n) = opens
@@ -70,12 +72,14 @@ pub data Encode : Type 0 where
   unset : Encode
   byte : ℕ → Encode
 
+-- what the f: lines set
 pub record Settings : Type 0 where
   pub encode : Encode
   pub twoStopbits : Bool
   pub omit : List ℕ
   pub lfext : List ℕ
 
+-- with no f: lines: no ENCODE byte, one stop bit, nothing omitted, LOG
 unfoldable pub default : Settings
 default = record { encode = unset; twoStopbits = false; omit = []; lfext = ascii "LOG" }
 
@@ -84,6 +88,7 @@ pub data Item : Type 0 where
   does : Statement → Item
   next : Item
 
+-- a script: its settings and its body
 pub record Script : Type 0 where
   pub settings : Settings
   pub body : List Item

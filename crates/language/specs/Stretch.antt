@@ -33,5 +33,6 @@ unfoldable pub largestOf : List (List Statement) → ℕ
 largestOf [] = 0
 largestOf (p ∷ ps) = max (stretchOf p) (largestOf ps)
 
+-- of the processes of a body
 unfoldable pub largest : List Item → ℕ
 largest body = largestOf (processes body)

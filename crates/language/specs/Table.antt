@@ -55,14 +55,17 @@ endsFrom i [] = i ∷ []
 endsFrom i (does s ∷ is) = endsFrom (i + 1) is
 endsFrom i (next ∷ is) = i ∷ endsFrom i is
 
+-- whether an ENCODE byte is set
 abbrev pub encodes : Encode → Bool
 encodes unset = false
 encodes (byte b) = true
 
+-- the ENCODE byte, 0 where none is set
 abbrev pub encodeByteOf : Encode → ℕ
 encodeByteOf unset = 0
 encodeByteOf (byte b) = b
 
+-- what a table has besides cells and data
 unfoldable pub headsOf : Script → Heads
 headsOf s =
     record {
@@ -77,6 +80,7 @@ headsOf s =
       extension = padded 3 (s .settings .lfext);
     }
 
+-- the table of a script: "a table's unused cells are zero"
 unfoldable pub laidOut : Script → Table
 laidOut s =
     record {
@@ -126,6 +130,7 @@ unfoldable pub lettersOf : List ℕ → List ℕ
 lettersOf [] = []
 lettersOf (b ∷ l) = cond (eqb b 0) [] (b ∷ lettersOf l)
 
+-- the settings, from the heads
 unfoldable pub settingsOf : Heads → Settings
 settingsOf h =
     record {
@@ -135,6 +140,7 @@ settingsOf h =
       lfext = lettersOf (h .extension);
     }
 
+-- the script of a table: of one laid out it is the script
 unfoldable pub scriptOf : Table → Script
 scriptOf t =
     record {

@@ -50,8 +50,10 @@ dataFrom (fault f) = []
 unfoldable pub meaningIn : List ℕ → Meaning
 meaningIn l = cond (ltb lineLimit (length l)) (fault LineTooLong) (meaning l)
 
+-- what a line says: "line over 127" 1 comes first
 unfoldable pub lineOf : List ℕ → Line
 lineOf l = shown (meaningIn l)
 
+-- and the data that it has, none where it is refused
 unfoldable pub lineData : List ℕ → List ℕ
 lineData l = dataFrom (meaningIn l)

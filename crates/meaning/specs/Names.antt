@@ -6,6 +6,7 @@ use lib.Dec.{eqb}
 use lib.ListN.{length, getD}
 use Rattle.language.specs.Meaning.{Entry, waits, names}
 
+-- the entries that pass a test
 unfoldable pub only : (List ℕ → Bool) → List Entry → List Entry
 only p [] = []
 only p (e ∷ es) = cond (p (e .word)) (e ∷ only p es) (only p es)
@@ -14,6 +15,7 @@ only p (e ∷ es) = cond (p (e .word)) (e ∷ only p es) (only p es)
 abbrev pub byteIs : ℕ → ℕ → List ℕ → Bool
 byteIs at b w = eqb (getD w at 0) b
 
+-- a name of so many bytes
 abbrev pub lengthIs : ℕ → List ℕ → Bool
 lengthIs n w = eqb (length w) n
 

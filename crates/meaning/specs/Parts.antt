@@ -25,6 +25,7 @@ use Rattle.meaning.specs.declared.Unit.the-variants as Unit
 unfoldable pub bareLine : List ℕ → List ℕ → List ℕ → Line → Line
 bareLine word name rest told = cond (same word name) (cond (all isBlank rest) told (Faulty BadRest)) (Faulty NoSuchName)
 
+-- a wait for a level, told
 unfoldable pub levelLine : ℕ → Bool → Line
 levelLine n on = Says (WaitSignal (level n on))
 
@@ -40,6 +41,7 @@ whole a (Number.Bad at) = Number.Bad at
 
 -- ---- clock values
 
+-- a unit that was read, or the place of its fault
 unfoldable pub unitFrom : Number → Unit
 unitFrom (Number.Value v next) = Unit.Of v
 unitFrom (Number.Bad at) = Unit.Bad at
@@ -58,8 +60,10 @@ clockLine f (bad at) = Faulty BadRest
 abbrev pub secondIn : Clock → List ℕ → Clock
 secondIn c vs = clock (c .fixed) (c .day) (c .hour) (c .minute) (getD vs 0 0)
 
+-- minute and second beside those that are read already
 abbrev pub minuteIn : Clock → List ℕ → Clock
 minuteIn c vs = clock (c .fixed) (c .day) (c .hour) (getD vs 0 0) (getD vs 1 0)
 
+-- hour, minute and second beside the day that is read already
 abbrev pub hourIn : Clock → List ℕ → Clock
 hourIn c vs = clock (c .fixed) (c .day) (getD vs 0 0) (getD vs 1 0) (getD vs 2 0)

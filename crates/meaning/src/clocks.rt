@@ -134,7 +134,7 @@ fn from_second(digits: &[u8]) -> Line
 }
 
 // WAIT CLOCK: the unit, D, h, m or s, and the digits.
-pub fn wait_clock(argument: &[u8]) -> Line
+pub(crate) fn wait_clock(argument: &[u8]) -> Line
     ensures { λ r. ⌜ r ≡ shown (clockSays (clockOf (now (argument .entry)))) ⌝ }
 {
     if argument.len() == 0 {

@@ -133,7 +133,7 @@ fn by_name<'a>(word: &'a [u8], rest: &'a [u8], bytes: &mut Data) -> Line
 }
 
 // A line that begins with `#`: its first word, and what follows it.
-pub fn named(line: &[u8], bytes: &mut Data) -> Line
+pub(crate) fn named(line: &[u8], bytes: &mut Data) -> Line
     requires { ⌜ length (now line) ≤ 127 ⌝ }
     ensures { λ r. ⌜ Tells (named (now (line .entry))) r (now (bytes .entry)) (now (bytes .exit)) ⌝ }
 {

@@ -11,7 +11,7 @@ use reader::Number;
 use reader::hex::hex_byte;
 
 // RTS: ON or OFF.
-pub fn rts(argument: &[u8]) -> Line
+pub(crate) fn rts(argument: &[u8]) -> Line
     ensures { λ r. ⌜ r ≡ shown (rtsOf (now (argument .entry))) ⌝ }
 {
     if is_name(argument, b"ON") {
@@ -24,7 +24,7 @@ pub fn rts(argument: &[u8]) -> Line
 }
 
 // EX1 to EX4: IN.
-pub fn ex(argument: &[u8]) -> Line
+pub(crate) fn ex(argument: &[u8]) -> Line
     ensures { λ r. ⌜ r ≡ shown (exIn (now (argument .entry))) ⌝ }
 {
     if is_name(argument, b"IN") {
@@ -34,14 +34,14 @@ pub fn ex(argument: &[u8]) -> Line
 }
 
 // STOPBITS: exactly 2 is two, any other rest is one.
-pub fn stopbits(argument: &[u8]) -> Line
+pub(crate) fn stopbits(argument: &[u8]) -> Line
     ensures { λ r. ⌜ r ≡ shown (stopbitsOf (now (argument .entry))) ⌝ }
 {
     Line::Stopbits(is_name(argument, b"2"))
 }
 
 // ENCODE: `:` and one or two hex digits, `/` then a byte, or the byte.
-pub fn encode(argument: &[u8]) -> Line
+pub(crate) fn encode(argument: &[u8]) -> Line
     ensures { λ r. ⌜ r ≡ shown (encodeOf (now (argument .entry))) ⌝ }
 {
     if argument.len() == 0 {
@@ -93,7 +93,7 @@ fn is_capital(b: u8) -> bool
 }
 
 // LFEXT: one to three letters or digits.
-pub fn lfext(argument: &[u8]) -> Line
+pub(crate) fn lfext(argument: &[u8]) -> Line
     ensures { λ r. ⌜ r ≡ shown (lfextOf (now (argument .entry))) ⌝ }
 {
     let count = argument.len();

@@ -60,7 +60,7 @@ fn read_marked(rest: &[u8], bytes: &mut Data) -> Found
 }
 
 // A line that sends text.
-pub fn send_text(text: &[u8], bytes: &mut Data) -> Line
+pub(crate) fn send_text(text: &[u8], bytes: &mut Data) -> Line
     requires { ⌜ length (now text) ≤ 127 ⌝ }
     ensures { λ r. ⌜ Tells (says (send (now (text .entry)))) r (now (bytes .entry)) (now (bytes .exit)) ⌝ }
 {
@@ -69,7 +69,7 @@ pub fn send_text(text: &[u8], bytes: &mut Data) -> Line
 }
 
 // A line that sends hex bytes.
-pub fn send_hex(text: &[u8], bytes: &mut Data) -> Line
+pub(crate) fn send_hex(text: &[u8], bytes: &mut Data) -> Line
     requires { ⌜ length (now text) ≤ 127 ⌝ }
     ensures { λ r. ⌜ Tells (sendSays (hexAt (now (text .entry)) 0)) r (now (bytes .entry)) (now (bytes .exit)) ⌝ }
 {
@@ -80,7 +80,7 @@ pub fn send_hex(text: &[u8], bytes: &mut Data) -> Line
 }
 
 // WAIT DATA: marked data, not empty.
-pub fn wait_data(rest: &[u8], bytes: &mut Data) -> Line
+pub(crate) fn wait_data(rest: &[u8], bytes: &mut Data) -> Line
     requires { ⌜ length (now rest) ≤ 127 ⌝ }
     ensures { λ r. ⌜ Tells (dataSays (markedData (skip (now (rest .entry))))) r (now (bytes .entry)) (now (bytes .exit)) ⌝ }
 {
@@ -97,7 +97,7 @@ pub fn wait_data(rest: &[u8], bytes: &mut Data) -> Line
 }
 
 // OMIT: marked data.
-pub fn omit(rest: &[u8], bytes: &mut Data) -> Line
+pub(crate) fn omit(rest: &[u8], bytes: &mut Data) -> Line
     requires { ⌜ length (now rest) ≤ 127 ⌝ }
     ensures { λ r. ⌜ Tells (omitSays (markedData (skip (now (rest .entry))))) r (now (bytes .entry)) (now (bytes .exit)) ⌝ }
 {
@@ -150,7 +150,7 @@ fn right_signs(text: &[u8]) -> bool
 }
 
 // LOG: one space and text, or nothing.
-pub fn log(rest: &[u8], bytes: &mut Data) -> Line
+pub(crate) fn log(rest: &[u8], bytes: &mut Data) -> Line
     requires { ⌜ length (now rest) ≤ 127 ⌝ }
     ensures { λ r. ⌜ Tells (logOf (now (rest .entry))) r (now (bytes .entry)) (now (bytes .exit)) ⌝ }
 {

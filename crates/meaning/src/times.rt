@@ -31,7 +31,7 @@ fn whole_number(argument: &[u8]) -> Number
 }
 
 // LOOP: how often, 0 is forever.
-pub fn loop_count(argument: &[u8]) -> Line
+pub(crate) fn loop_count(argument: &[u8]) -> Line
     ensures { λ r. ⌜ r ≡ shown (loopOf (now (argument .entry))) ⌝ }
 {
     if argument.len() == 0 {
@@ -47,7 +47,7 @@ pub fn loop_count(argument: &[u8]) -> Line
 }
 
 // WAIT BYTE: how many bytes.
-pub fn wait_byte(argument: &[u8]) -> Line
+pub(crate) fn wait_byte(argument: &[u8]) -> Line
     ensures { λ r. ⌜ r ≡ shown (byteOf (now (argument .entry))) ⌝ }
 {
     if argument.len() == 0 {
@@ -82,7 +82,7 @@ fn time_in(unit: &[u8], v: u32) -> Line
 }
 
 // WAIT TIME: a number and a unit that touch.
-pub fn wait_time(argument: &[u8]) -> Line
+pub(crate) fn wait_time(argument: &[u8]) -> Line
     ensures { λ r. ⌜ r ≡ shown (timeOf (now (argument .entry))) ⌝ }
 {
     match number(argument, 0, 5, MOST) {

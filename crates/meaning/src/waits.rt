@@ -101,7 +101,7 @@ fn by_second<'a>(word: &'a [u8], rest: &'a [u8], bytes: &mut Data) -> Line
 }
 
 // WAIT: its second word, and what follows it.
-pub fn wait(rest: &[u8], bytes: &mut Data) -> Line
+pub(crate) fn wait(rest: &[u8], bytes: &mut Data) -> Line
     requires { ⌜ length (now rest) ≤ 127 ⌝ }
     ensures { λ r. ⌜ Tells (waitOf (skip (now (rest .entry)))) r (now (bytes .entry)) (now (bytes .exit)) ⌝ }
 {

@@ -10,21 +10,21 @@ use reader::words::is_named;
 use reader::words::trimmed_end;
 
 // Whether a word is this name.
-pub fn is_name(word: &[u8], name: &[u8]) -> bool
+pub(crate) fn is_name(word: &[u8], name: &[u8]) -> bool
     ensures { λ r. ⌜ r ≡ same (now (word .entry)) (now (name .entry)) ⌝ }
 {
     is_named(word, 0, word.len(), name)
 }
 
 // Whether there is nothing but spaces and tabs.
-pub fn only_blanks(rest: &[u8]) -> bool
+pub(crate) fn only_blanks(rest: &[u8]) -> bool
     ensures { λ r. ⌜ r ≡ all isBlank (now (rest .entry)) ⌝ }
 {
     after_blanks(rest, 0) == rest.len()
 }
 
 // What a name is followed by, without the spaces and tabs around it.
-pub fn argument(rest: &[u8]) -> &[u8]
+pub(crate) fn argument(rest: &[u8]) -> &[u8]
     ensures { λ r. ⌜ now r ≡ argument (now (rest .entry)) ⌝ }
 {
     let from = after_blanks(rest, 0);
@@ -34,7 +34,7 @@ pub fn argument(rest: &[u8]) -> &[u8]
 }
 
 // What a line tells whose one name has nothing behind it.
-pub fn bare_name<'a>(word: &'a [u8], name: &'a [u8], rest: &'a [u8], told: Line) -> Line
+pub(crate) fn bare_name<'a>(word: &'a [u8], name: &'a [u8], rest: &'a [u8], told: Line) -> Line
     ensures { λ r. ⌜ r ≡ bareLine (now (word .entry)) (now (name .entry)) (now (rest .entry)) told ⌝ }
 {
     if is_name(word, name) {

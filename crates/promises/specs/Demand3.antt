@@ -47,10 +47,12 @@ abbrev pub takenNumber : Taken → ℕ
 takenNumber taken.Took = 0
 takenNumber (taken.Refused r) = refusalNumber r
 
+-- the number that a received byte is answered by, 0 where it is taken
 abbrev pub receivedNumber : Received → ℕ
 receivedNumber (received.Took c) = 0
 receivedNumber (received.Refused r) = refusalNumber r
 
+-- likewise of a drain
 abbrev pub outcomeNumber : Outcome → ℕ
 outcomeNumber Quiet = 0
 outcomeNumber (Sent n) = 0
@@ -62,6 +64,7 @@ outcomeNumber Resume = 0
 outcomeNumber Plain = 0
 outcomeNumber (Refused r) = refusalNumber r
 
+-- likewise of any call
 unfoldable pub replyNumber : Reply → ℕ
 replyNumber (event a) = takenNumber a
 replyNumber (calls.received a) = receivedNumber a
@@ -81,10 +84,12 @@ did (Refused r) = false
 
 -- ---- the statements that each process has done since the last start or accepted event, by its number from 0
 
+-- an accepted event starts the count anew
 abbrev pub afterTaken : Taken → ℕ → ℕ
 afterTaken taken.Took n = 0
 afterTaken (taken.Refused r) n = n
 
+-- an accepted byte likewise
 abbrev pub afterReceived : Received → ℕ → ℕ
 afterReceived (received.Took c) n = 0
 afterReceived (received.Refused r) n = n
@@ -106,6 +111,7 @@ pub record Run : Type 0 where
 unfoldable pub next : Table → Run → Call → Run
 next t r q = record { box = called t q (r .box) .box; done = tally (r .box .state) (called t q (r .box) .reply) (r .done) }
 
+-- a run after some more calls
 unfoldable pub after : Table → Run → List Call → Run
 after t r [] = r
 after t r (q ∷ qs) = after t (next t r q) qs
@@ -120,6 +126,7 @@ fresh t b = next t (record { box = b; done = λ i. 0 }) start
 abbrev pub firstOf : Heads → ℕ → ℕ
 firstOf h i = cond (ltb i (h .processes)) (begins h i) 0
 
+-- where a process ends
 abbrev pub endOf : Heads → ℕ → ℕ
 endOf h i = cond (ltb i (h .processes)) (stops h i) 0
 
@@ -137,6 +144,7 @@ pub record QuietExactly (t : Table) (b : Box) (room : ℕ) : Type 0 where
   pub only : called t (drain room) b .reply ≡ outcome Quiet [] → (busy (b .state) ≡ false) × (127 < room)
   pub always : busy (b .state) ≡ false → 127 < room → called t (drain room) b .reply ≡ outcome Quiet []
 
+-- demand 3 at one moment: each process is safe, no call is answered 25, and a drain says quiet exactly when none is ready
 pub record Bounded (t : Table) (k : ℕ) (r : Run) : Type 0 where
   pub safe : (i : ℕ) → i < processLimit → Safe (t .heads) k i (r .done i) (getD (r .box .state .processes) i nobody)
   pub found : (q : Call) → replyNumber (called t q (r .box) .reply) ≡ 25 → ⊥

@@ -74,7 +74,7 @@ unfoldable pub movedSaid : ℕ → Said → Said
 movedSaid k (good bs) = good bs
 movedSaid k (bad at) = bad (k + at)
 
--- ---- "`:` and one or two hex digits; more is ignored": one byte, as ENCODE needs it
+-- ---- "`:` and one or two hex digits"; "more is ignored": one byte, as ENCODE needs it
 
 -- after the first digit `h`: a second one, or none
 unfoldable pub hexSecond : ℕ → List ℕ → ℕ → Number

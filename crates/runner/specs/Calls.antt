@@ -15,6 +15,7 @@ use Rattle.runner.specs.declared.Refusal.the-variants.{BadTable}
 use Rattle.runner.specs.Draining.{does, writes, drained, countsAfter}
 use Rattle.runner.specs.Starting.{startState, noCounts}
 
+-- what is handed on from call to call
 pub record Box : Type 0 where
   pub state : State
   pub counts : List ℕ
@@ -33,16 +34,20 @@ pub data Reply : Type 0 where
   received : Received → Reply
   outcome : Outcome → List ℕ → Reply
 
+-- the box after a call, and what it was answered
 pub record Called : Type 0 where
   pub box : Box
   pub reply : Reply
 
+-- the box with another state
 abbrev pub boxed : State → List ℕ → Box
 boxed s counts = record { state = s; counts = counts }
 
+-- an event's answer as a call's
 abbrev pub answeredBy : List ℕ → Event → Called
 answeredBy counts e = record { box = boxed (e .state) counts; reply = event (e .answer) }
 
+-- a byte's answer as a call's
 abbrev pub receivedBy : List ℕ → ByteEvent → Called
 receivedBy counts e = record { box = boxed (e .state) counts; reply = received (e .answer) }
 

@@ -136,6 +136,7 @@ stateAfter cells s =
       paused = pausedBy (s .paused) (cellAt cells (turn s));
     }
 
+-- "A refusal alters no state"
 abbrev pub unaltered : State → Outcome → Drained
 unaltered s o = record { state = s; outcome = o }
 
@@ -154,6 +155,7 @@ drained cells pool s counts room =
 unfoldable pub bufferAfter : List ℕ → List ℕ → State → List ℕ → List ℕ → List ℕ
 bufferAfter cells pool s counts out = cond (does cells s (length out)) (seq.sets out 0 (writes cells pool s counts)) out
 
+-- "Each LOG statement has its own `@c`": by the place of its cell
 unfoldable pub countsAfter : List ℕ → State → List ℕ → ℕ → List ℕ
 countsAfter cells s counts room =
     cond (does cells s room)

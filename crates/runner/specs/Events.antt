@@ -29,10 +29,12 @@ refusalNumber NoSuchSignal = 23
 refusalNumber SmallBuffer = 24
 refusalNumber BadTable = 25
 
+-- some element passes a test
 abbrev pub any : {A : Type 0} → (A → Bool) → List A → Bool
 any f [] = false
 any f (x ∷ xs) = f x || any f xs
 
+-- every element does
 abbrev pub every : {A : Type 0} → (A → Bool) → List A → Bool
 every f [] = true
 every f (x ∷ xs) = f x && every f xs
@@ -45,9 +47,11 @@ busy s = any ready (s .processes)
 abbrev pub refused : State → Refusal → Event
 refused s r = record { state = s; answer = taken.Refused r }
 
+-- an event that was taken
 abbrev pub took : State → Event
 took s = record { state = s; answer = taken.Took }
 
+-- the state with other processes
 abbrev pub withProcesses : State → List Process → State
 withProcesses s ps = record { processes = ps; reading = s .reading; levels = s .levels; paused = s .paused }
 
@@ -81,6 +85,7 @@ levelEvent s n on =
 unfoldable pub rangesRight : Heads → State → Bool
 rangesRight h s = leb (h .omits) omitLimit && every rangeRight (s .processes)
 
+-- a received byte's answer
 abbrev pub answeredWith : State → Received → ByteEvent
 answeredWith s a = record { state = s; answer = a }
 

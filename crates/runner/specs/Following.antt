@@ -8,6 +8,7 @@ use Rattle.runner.specs.declared.Follow.the-variants.{Bytes, Other}
 use Rattle.runner.specs.declared.Joined.{Joined}
 use Rattle.runner.specs.Moving.{neighbours, theirBytes}
 
+-- what a cell is to a WAIT DATA line before it
 abbrev pub followOf : Cell → Follow
 followOf Nothing = Other
 followOf (Send s) = Other

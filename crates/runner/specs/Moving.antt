@@ -39,6 +39,7 @@ passes p = goes p (p .place + 1) (p .depth) (p .left) (p .back)
 abbrev pub restsAt : Process → ℕ → Wait → Moved
 restsAt p place w = movedTo p place (p .depth) (p .left) (p .back) w
 
+-- a rest, with the next statement behind this one
 abbrev pub rests : Process → Wait → Moved
 rests p w = restsAt p (p .place + 1) w
 
@@ -87,6 +88,7 @@ more Resume n other = other
 more Nop n other = other
 more Unknown n other = other
 
+-- how many bytes a WAIT DATA cell has
 abbrev pub bytesIn : Cell → ℕ
 bytesIn Nothing = 0
 bytesIn (Send s) = 0
@@ -105,10 +107,12 @@ bytesIn Resume = 0
 bytesIn Nop = 0
 bytesIn Unknown = 0
 
+-- "WAIT DATA lines that follow each other in one process": how many there are
 unfoldable pub neighbours : List ℕ → ℕ
 neighbours [] = 0
 neighbours (w ∷ ws) = more (decoded w) (neighbours ws + 1) 0
 
+-- and how many bytes they have in all
 unfoldable pub theirBytes : List ℕ → ℕ
 theirBytes [] = 0
 theirBytes (w ∷ ws) = more (decoded w) (bytesIn (decoded w) + theirBytes ws) 0
@@ -132,6 +136,7 @@ signalled p levels l = cond (sameLevel (l .on) (getD levels (l .signal) false)) 
 abbrev pub behind : List ℕ → Process → List ℕ
 behind cells p = slice (p .place + 1) (p .end) cells
 
+-- what each statement does to its process
 unfoldable pub movedBy : List ℕ → List Bool → Process → Cell → Moved
 movedBy cells levels p Nothing = astray p
 movedBy cells levels p (Send s) = passes p

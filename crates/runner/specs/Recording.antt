@@ -6,6 +6,7 @@ use lib.ListN.{take}
 use lib.Dec.{eqb}
 use Rattle.language.specs.declared.Heads.{Heads}
 
+-- a byte among others
 unfoldable pub oneOf : List ℕ → ℕ → Bool
 oneOf [] b = false
 oneOf (c ∷ l) b = eqb c b || oneOf l b

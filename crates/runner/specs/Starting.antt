@@ -11,6 +11,7 @@ use Rattle.runner.specs.declared.Process.{Process}
 use Rattle.runner.specs.declared.State.{State}
 use Rattle.runner.specs.Waiting.{awake}
 
+-- a process at its first statement, with no loop open
 abbrev pub startAt : ℕ → ℕ → Process
 startAt first end =
     record { place = first; end = end; depth = 0; left = replicate loopLimit 0; back = replicate loopLimit 0; wait = awake first end }
@@ -24,9 +25,11 @@ unfoldable pub startedFrom : Heads → ℕ → ℕ → List Process
 startedFrom h i zero = []
 startedFrom h i (suc n) = started h i ∷ startedFrom h (i + 1) n
 
+-- "000101000000 (yymmddhhmmss) before any"
 abbrev pub noReading : Reading
 noReading = record { year = 0; month = 1; day = 1; hour = 0; minute = 0; second = 0 }
 
+-- "Levels start off", recording is not paused
 unfoldable pub startState : Heads → State
 startState h = record { processes = startedFrom h 0 processLimit; reading = noReading; levels = replicate 5 false; paused = false }
 

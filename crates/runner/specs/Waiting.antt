@@ -24,6 +24,7 @@ readyWait (Data m) = false
 readyWait (ClockValue c) = false
 readyWait (Signal l) = false
 
+-- a process that waits for nothing
 abbrev pub ready : Process → Bool
 ready p = readyWait (p .wait)
 
@@ -31,11 +32,13 @@ ready p = readyWait (p .wait)
 unfoldable pub awake : ℕ → ℕ → Wait
 awake place end = cond (ltb place end) Ready Over
 
+-- a process with another wait
 abbrev pub withWait : Process → Wait → Process
 withWait p w = record { place = p .place; end = p .end; depth = p .depth; left = p .left; back = p .back; wait = w }
 
 -- ---- "a tick of 1 ms": "WAIT TIME of n ms ends at the n-th tick after it began"
 
+-- "WAIT TIME of n ms ends at the n-th tick"
 abbrev pub tickedWait : ℕ → ℕ → Wait → Wait
 tickedWait place end Ready = Ready
 tickedWait place end Over = Over
@@ -45,6 +48,7 @@ tickedWait place end (Data m) = Data m
 tickedWait place end (ClockValue c) = ClockValue c
 tickedWait place end (Signal l) = Signal l
 
+-- a process takes a tick
 abbrev pub ticked : Process → Process
 ticked p = withWait p (tickedWait (p .place) (p .end) (p .wait))
 
@@ -54,6 +58,7 @@ ticked p = withWait p (tickedWait (p .place) (p .end) (p .wait))
 abbrev pub awaited : List ℕ → Progress → List ℕ
 awaited pool m = take (m .count) (drop (m .from) pool)
 
+-- so many bytes of the data are matched
 abbrev pub matchedTo : Progress → ℕ → Progress
 matchedTo m k = record { from = m .from; count = m .count; matched = k }
 
@@ -61,6 +66,7 @@ matchedTo m k = record { from = m .from; count = m .count; matched = k }
 unfoldable pub matchedWait : ℕ → ℕ → Progress → ℕ → Wait
 matchedWait place end m k = cond (eqb k (m .count)) (awake place end) (Data (matchedTo m k))
 
+-- "WAIT BYTE likewise for bytes"; a wait for data is matched on
 abbrev pub byteWait : List ℕ → ℕ → ℕ → ℕ → Wait → Wait
 byteWait pool b place end Ready = Ready
 byteWait pool b place end Over = Over
@@ -70,6 +76,7 @@ byteWait pool b place end (Data m) = matchedWait place end m (advance (awaited p
 byteWait pool b place end (ClockValue c) = ClockValue c
 byteWait pool b place end (Signal l) = Signal l
 
+-- a process takes a byte
 abbrev pub byteTaken : List ℕ → ℕ → Process → Process
 byteTaken pool b p = withWait p (byteWait pool b (p .place) (p .end) (p .wait))
 
@@ -77,6 +84,7 @@ byteTaken pool b p = withWait p (byteWait pool b (p .place) (p .end) (p .wait))
 unfoldable pub progressRight : Progress → Bool
 progressRight m = leb (m .from + m .count) dataLimit && ltb (m .matched) (m .count)
 
+-- a data range that leaves the pool, or is matched past its end, is 25
 abbrev pub waitRight : Wait → Bool
 waitRight Ready = true
 waitRight Over = true
@@ -86,6 +94,7 @@ waitRight (Data m) = progressRight m
 waitRight (ClockValue c) = true
 waitRight (Signal l) = true
 
+-- the data range of a process
 abbrev pub rangeRight : Process → Bool
 rangeRight p = waitRight (p .wait)
 
@@ -96,6 +105,7 @@ unfoldable pub unitMatches : Bool → ℕ → ℕ → Bool
 unitMatches true v w = eqb v w
 unitMatches false v w = true
 
+-- a reading has the value of each fixed unit
 unfoldable pub matches : Clock → Reading → Bool
 matches c r =
     unitMatches (leb 4 (c .fixed)) (c .day) (r .day)
@@ -103,6 +113,7 @@ matches c r =
     && (unitMatches (leb 2 (c .fixed)) (c .minute) (r .minute)
     && unitMatches (leb 1 (c .fixed)) (c .second) (r .second)))
 
+-- a reading ends a wait for a clock value that it matches
 abbrev pub readingWait : Reading → ℕ → ℕ → Wait → Wait
 readingWait r place end Ready = Ready
 readingWait r place end Over = Over
@@ -112,19 +123,23 @@ readingWait r place end (Data m) = Data m
 readingWait r place end (ClockValue c) = cond (matches c r) (awake place end) (ClockValue c)
 readingWait r place end (Signal l) = Signal l
 
+-- a process takes a reading
 abbrev pub readingTaken : Reading → Process → Process
 readingTaken r p = withWait p (readingWait r (p .place) (p .end) (p .wait))
 
 -- ---- "a signal level": "Signal waits pass at once if the level holds, else at the event that sets it"
 
+-- two levels agree
 abbrev pub sameLevel : Bool → Bool → Bool
 sameLevel true on = on
 sameLevel false true = false
 sameLevel false false = true
 
+-- an event sets the level that a wait is for
 unfoldable pub sets : Level → Level → Bool
 sets l e = eqb (l .signal) (e .signal) && sameLevel (l .on) (e .on)
 
+-- such an event ends the wait
 abbrev pub levelWait : Level → ℕ → ℕ → Wait → Wait
 levelWait e place end Ready = Ready
 levelWait e place end Over = Over
@@ -134,5 +149,6 @@ levelWait e place end (Data m) = Data m
 levelWait e place end (ClockValue c) = ClockValue c
 levelWait e place end (Signal l) = cond (sets l e) (awake place end) (Signal l)
 
+-- a process takes a level
 abbrev pub levelTaken : Level → Process → Process
 levelTaken e p = withWait p (levelWait e (p .place) (p .end) (p .wait))

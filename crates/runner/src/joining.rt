@@ -45,7 +45,7 @@ fn told(cells: usize, bytes: u32) -> Joined
 }
 
 // The WAIT DATA lines from one place up to another.
-pub fn joined(words: &[u32], from: usize, end: usize) -> Joined
+pub(crate) fn joined(words: &[u32], from: usize, end: usize) -> Joined
     ensures { λ r. ⌜ (length (now (words .entry)) ≤ 512 → r ≡ joinedOf (slice from end (now (words .entry)))) × (r .cells ≤ 512) ⌝ }
 {
     if 512 < words.len() {

@@ -45,7 +45,7 @@ fn searched(want: &[u8], k: usize, b: u8) -> usize
 }
 
 // The bytes matched after b, where k were matched before it; nothing where k are not there.
-pub fn advanced(want: &[u8], k: usize, b: u8) -> usize
+pub(crate) fn advanced(want: &[u8], k: usize, b: u8) -> usize
     ensures { λ r. ⌜ (k < length (now (want .entry)) → r ≡ advance (now (want .entry)) k b) ⌝ }
 {
     if k < want.len() {

@@ -221,7 +221,7 @@ impl Process {
     }
 
     // One statement of a process that is ready.
-    pub fn step(self, cells: &Cells, levels: [bool; 5]) -> Moved
+    pub(crate) fn step(self, cells: &Cells, levels: [bool; 5]) -> Moved
         ensures { λ r. ⌜ r ≡ moved (now (cells .entry)) levels self ⌝ }
     {
         let place = self.place;

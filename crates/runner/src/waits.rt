@@ -11,20 +11,20 @@ use language::Clock;
 use language::Level;
 use language::Pool;
 
-// "One past its last statement is never ready again."
-pub fn awaken(place: u16, end: u16) -> Wait
+// "one past its last statement is never ready again"
+pub(crate) fn awaken(place: u16, end: u16) -> Wait
     ensures { λ r. ⌜ r ≡ awake place end ⌝ }
 {
     if place < end { Wait::Ready } else { Wait::Over }
 }
 
-pub fn both(a: bool, b: bool) -> bool
+pub(crate) fn both(a: bool, b: bool) -> bool
     ensures { λ r. ⌜ r ≡ (a && b) ⌝ }
 {
     if a { b } else { false }
 }
 
-pub fn same_level(a: bool, b: bool) -> bool
+pub(crate) fn same_level(a: bool, b: bool) -> bool
     ensures { λ r. ⌜ r ≡ sameLevel a b ⌝ }
 {
     if a {
@@ -58,7 +58,7 @@ fn sets_level(l: Level, e: Level) -> bool
 }
 
 impl Wait {
-    pub fn is_ready(self) -> bool
+    pub(crate) fn is_ready(self) -> bool
         ensures { λ r. ⌜ r ≡ readyWait self ⌝ }
     {
         match self {
@@ -73,7 +73,7 @@ impl Wait {
     }
 
     // A wait of n ms has n - 1 left after a tick, and is over where that is none.
-    pub fn tick(self, place: u16, end: u16) -> Self
+    pub(crate) fn tick(self, place: u16, end: u16) -> Self
         ensures { λ r. ⌜ r ≡ tickedWait place end self ⌝ }
     {
         match self {
@@ -93,7 +93,7 @@ impl Wait {
     }
 
     // A reading ends a wait for a clock value that it matches.
-    pub fn read(self, r: Reading, place: u16, end: u16) -> Self
+    pub(crate) fn read(self, r: Reading, place: u16, end: u16) -> Self
         ensures { λ w. ⌜ w ≡ readingWait r place end self ⌝ }
     {
         match self {
@@ -113,7 +113,7 @@ impl Wait {
     }
 
     // A level ends a wait for it.
-    pub fn level(self, e: Level, place: u16, end: u16) -> Self
+    pub(crate) fn level(self, e: Level, place: u16, end: u16) -> Self
         ensures { λ w. ⌜ w ≡ levelWait e place end self ⌝ }
     {
         match self {

@@ -35,6 +35,7 @@ headsWith ends =
       extension = [];
     }
 
+-- what `largest` answers is what the case says
 abbrev pub Holds : Case → Type 0
 Holds c = measured (padded linesLimit (map coded (c .cells))) (headsWith (c .ends)) ≡ c .answer
 
@@ -43,6 +44,7 @@ abbrev pub AllHold : List Case → Type 0
 AllHold [] = Unit {0}
 AllHold (c ∷ cs) = Holds c × AllHold cs
 
+-- the cases of document 01 about stretches, and tables that do not nest
 abbrev pub cases : List Case
 cases =
     -- "#LOOP 2047, /A, #END: stretch 4,095, accepted"

@@ -37,6 +37,7 @@ processesOf cells heads = processesFrom cells 0 (take (heads .processes) (heads 
 abbrev pub begins : Heads → ℕ → ℕ
 begins heads i = getD (0 ∷ heads .ends) i 0
 
+-- the place behind its last cell
 abbrev pub stops : Heads → ℕ → ℕ
 stops heads i = getD (heads .ends) i 0
 
