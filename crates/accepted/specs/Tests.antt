@@ -5,7 +5,7 @@ use mathlib.Core.List.{List, [], _∷_}
 use lib.ListN.{length, getD, take, drop}
 use lib.Dec.{ltb, leb, eqb}
 use Rattle.reader.specs.Ascii.{ascii}
-use Rattle.reader.specs.Bytes.{same}
+use Rattle.reader.specs.Bytes.{all, same}
 use Rattle.language.specs.declared.Span.{Span}
 use Rattle.language.specs.declared.Cell.{Cell}
 use Rattle.language.specs.declared.Cell.the-variants.{Nothing, Send, Loop, End, WaitTime, WaitData, WaitByte, WaitClock, WaitSignal, Rts, Log, Fchange, Pause, Resume, Nop, Unknown}
@@ -18,9 +18,11 @@ use Rattle.language.specs.Table.{dataAt, lettersOf}
 use Rattle.stretch.specs.Measured.{measured, isLargest}
 
 -- "unused cells are zero"
+abbrev pub isZero : ℕ → Bool
+isZero b = eqb b 0
+
 unfoldable pub zeros : List ℕ → Bool
-zeros [] = true
-zeros (b ∷ l) = eqb b 0 && zeros l
+zeros l = all isZero l
 
 -- data begin where those before them end
 unfoldable pub follows : ℕ → Span → Bool

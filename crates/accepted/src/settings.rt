@@ -1,0 +1,2 @@
+// The settings.
+ghost use mathlib.Core.Path.{_≡_};
