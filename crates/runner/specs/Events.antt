@@ -57,14 +57,8 @@ tickEvent s = cond (busy s) (refused s Busy) (took (withProcesses s (map ticked 
 -- "A reading has year 0 to 99, month 1 to 12, day 1 to 31, hour to 23, minute and second to 59."
 unfoldable pub readingRight : Reading → Bool
 readingRight r =
-    leb (r .year) 99
-    && (leb 1 (r .month)
-    && (leb (r .month) 12
-    && (leb 1 (r .day)
-    && (leb (r .day) 31
-    && (leb (r .hour) 23
-    && (leb (r .minute) 59
-    && leb (r .second) 59))))))
+    (leb (r .year) 99 && (leb 1 (r .month) && (leb (r .month) 12 && (leb 1 (r .day) && leb (r .day) 31))))
+    && (leb (r .hour) 23 && (leb (r .minute) 59 && leb (r .second) 59))
 
 -- a clock reading: 21, then 22
 unfoldable pub readingEvent : State → Reading → Event

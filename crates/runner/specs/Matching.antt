@@ -18,6 +18,10 @@ longest d xs (suc n) = cond (same (take (suc n) d) (last (suc n) xs)) (suc n) (l
 unfoldable pub progress : List ℕ → List ℕ → ℕ
 progress d xs = longest d xs (length xs)
 
--- the bytes matched after b, where k were before it: what is known of the bytes received is that they end in those and b
+-- what is known of the bytes received, where k bytes of d are matched and b comes
+abbrev pub recent : List ℕ → ℕ → ℕ → List ℕ
+recent d k b = take k d ++ (b ∷ [])
+
+-- the bytes matched after b
 unfoldable pub advance : List ℕ → ℕ → ℕ → ℕ
-advance d k b = progress d (take k d ++ (b ∷ []))
+advance d k b = progress d (recent d k b)

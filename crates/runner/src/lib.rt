@@ -1,5 +1,11 @@
 // The runner: start, the four events and the drain, on a lent table and a state by value.
 use language::Clock;
+
+pub mod events;
+
+mod matching;
+
+mod waits;
 use language::LINES;
 use language::LOOPS;
 use language::Level;

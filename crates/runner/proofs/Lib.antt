@@ -1,0 +1,4 @@
+pub mod WaitCases
+pub mod Overlaps
+pub mod Loops
+pub mod EventCases
