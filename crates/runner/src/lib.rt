@@ -5,6 +5,8 @@ pub mod events;
 
 mod matching;
 
+pub mod receiving;
+
 mod waits;
 use language::LINES;
 use language::LOOPS;

@@ -1,0 +1,41 @@
+-- `runner::receiving::awaited_data` meets its contract. Assumes nothing.
+use mathlib.Core.Path.{_≡_}
+use Prim.Native.Nat.{_+_, _-_}
+use native.Mathlib.Omega.{arith}
+use Rattle.runner.proofs.WaitCases.{part-is}
+use borrow.Author.Needs.{needs}
+use Rattle.runner.proofs.receiving.awaited_data.Statement.{statement}
+use Rattle.runner.proofs.receiving.awaited_data.Tie as tie
+
+wide-requires : tie.Need-wide-requires
+wide-requires c κs = search needs
+
+wide-requires-2 : tie.Need-wide-requires-2
+wide-requires-2 c κs = search needs
+
+add-to : tie.Need-add-to
+add-to c = search needs
+
+sub-result : tie.Need-sub-result
+sub-result c = search needs
+
+part-result-start : tie.Need-part-result-start
+part-result-start c = search needs
+
+part-result-end : tie.Need-part-result-end
+part-result-end c = search needs
+
+returns : tie.Need-returns
+returns c = part-is _ _ _ (c .before .before .before .wide .ensures) (c .before .before .wide2 .ensures)
+
+pub awaited-data-spec : {M : Type 1} → statement M
+awaited-data-spec =
+    tie.close
+    (tie.spec
+    wide-requires
+    wide-requires-2
+    add-to
+    sub-result
+    part-result-start
+    part-result-end
+    returns)
