@@ -14,12 +14,8 @@ fn say(text: &[u8]) {
     io::write_all(STDOUT_FILENO, text);
 }
 
-fn say_place(n: usize) {
-    io::print_decimal(STDOUT_FILENO, n as u64);
-}
-
-fn say_number(n: u32) {
-    io::print_decimal(STDOUT_FILENO, n as u64);
+fn say_number(n: u64) {
+    io::print_decimal(STDOUT_FILENO, n);
 }
 
 // What was asked: a name, a text in brackets, and a place.
@@ -28,21 +24,21 @@ fn ask(name: &[u8], text: &[u8], at: usize) {
     say(b" [");
     say(text);
     say(b"] at ");
-    say_place(at);
+    say_number(at as u64);
 }
 
 fn answer_number(n: Number) {
     match n {
         Number::Value(v, next) => {
             say(b": ");
-            say_number(v);
+            say_number(v as u64);
             say(b", next ");
-            say_place(next);
+            say_number(next as u64);
             say(b"\n");
         }
         Number::Bad(at) => {
             say(b": bad at ");
-            say_place(at);
+            say_number(at as u64);
             say(b"\n");
         }
     }
@@ -53,7 +49,7 @@ fn answer_put(p: Put, out: &[u8]) {
     match p {
         Put::Next(next) => {
             say(b": next ");
-            say_place(next);
+            say_number(next as u64);
         }
         Put::NoRoom => {
             say(b": no room");
@@ -66,9 +62,9 @@ fn answer_put(p: Put, out: &[u8]) {
 
 fn byte(b: u8) {
     say(b"byte ");
-    say_number(b as u32);
+    say_number(b as u64);
     say(b": digit ");
-    say_number(bytes::digit(b) as u32);
+    say_number(bytes::digit(b) as u64);
     if bytes::blank(b) {
         say(b", blank");
     }
@@ -79,9 +75,9 @@ fn word(text: &[u8], at: usize) {
     ask(b"word", text, at);
     let from = words::after_blanks(text, at);
     say(b": from ");
-    say_place(from);
+    say_number(from as u64);
     say(b" to ");
-    say_place(words::word_end(text, from));
+    say_number(words::word_end(text, from) as u64);
     say(b"\n");
 }
 
@@ -89,14 +85,14 @@ fn trimmed(text: &[u8]) {
     say(b"trimmed [");
     say(text);
     say(b"]: ");
-    say_place(words::trimmed_end(text));
+    say_number(words::trimmed_end(text) as u64);
     say(b"\n");
 }
 
 fn named(text: &[u8], from: usize, to: usize, name: &[u8]) {
     ask(b"named", text, from);
     say(b" to ");
-    say_place(to);
+    say_number(to as u64);
     say(b" [");
     say(name);
     if words::is_named(text, from, to, name) {
@@ -109,18 +105,18 @@ fn named(text: &[u8], from: usize, to: usize, name: &[u8]) {
 fn number(text: &[u8], at: usize, most: usize, limit: u32) {
     ask(b"number", text, at);
     say(b" of ");
-    say_place(most);
+    say_number(most as u64);
     say(b" digits up to ");
-    say_number(limit);
+    say_number(limit as u64);
     answer_number(numbers::number(text, at, most, limit));
 }
 
 fn pair(text: &[u8], at: usize, low: u8, high: u8) {
     ask(b"pair", text, at);
     say(b" from ");
-    say_number(low as u32);
+    say_number(low as u64);
     say(b" to ");
-    say_number(high as u32);
+    say_number(high as u64);
     answer_number(numbers::pair(text, at, low, high));
 }
 
@@ -144,24 +140,24 @@ fn data(text: &[u8], at: usize, to: usize) {
     match hex::hex_count(text, at) {
         HexCount::Of(n) => {
             say(b": count ");
-            say_place(n);
+            say_number(n as u64);
         }
         HexCount::Not(i) => {
             say(b": bad at ");
-            say_place(i);
+            say_number(i as u64);
         }
     }
     say(b"; into 4 from ");
-    say_place(to);
+    say_number(to as u64);
     let mut out = [238u8; 4];
     match hex::hex_into(text, at, &mut out, to) {
         HexRead::Bytes(n) => {
             say(b": bytes ");
-            say_place(n);
+            say_number(n as u64);
         }
         HexRead::Wrong(i) => {
             say(b": bad at ");
-            say_place(i);
+            say_number(i as u64);
         }
         HexRead::Full => {
             say(b": full");
@@ -172,9 +168,9 @@ fn data(text: &[u8], at: usize, to: usize) {
 
 fn put_decimal(n: u32, at: usize) {
     say(b"put decimal ");
-    say_number(n);
+    say_number(n as u64);
     say(b" at ");
-    say_place(at);
+    say_number(at as u64);
     let mut out = [46u8; 12];
     let p = writers::put_decimal(&mut out, at, n);
     answer_put(p, &out);
@@ -182,9 +178,9 @@ fn put_decimal(n: u32, at: usize) {
 
 fn put_two_digits(n: u8, at: usize) {
     say(b"put two digits ");
-    say_number(n as u32);
+    say_number(n as u64);
     say(b" at ");
-    say_place(at);
+    say_number(at as u64);
     let mut out = [46u8; 4];
     let p = writers::put_two_digits(&mut out, at, n);
     answer_put(p, &out);
@@ -192,9 +188,9 @@ fn put_two_digits(n: u8, at: usize) {
 
 fn put_hex_digits(b: u8, at: usize) {
     say(b"put hex digits ");
-    say_number(b as u32);
+    say_number(b as u64);
     say(b" at ");
-    say_place(at);
+    say_number(at as u64);
     let mut out = [46u8; 4];
     let p = writers::put_hex_digits(&mut out, at, b);
     answer_put(p, &out);
@@ -246,9 +242,6 @@ fn all_words() {
     word(b"#LOOP", 6);
     word(b"#LOOP", FAR);
     word(b"", 0);
-}
-
-fn all_trimmed() {
     trimmed(b"ON \t ");
     trimmed(b"ON");
     trimmed(b" ON x");
@@ -394,7 +387,6 @@ fn all_writers() {
 fn main() {
     all_bytes();
     all_words();
-    all_trimmed();
     all_names();
     all_numbers();
     all_pairs();

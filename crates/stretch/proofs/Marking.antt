@@ -2,10 +2,10 @@
 use mathlib.Core.Path.{_≡_, refl, ap, sym, _∙_}
 use mathlib.Core.Bool.{cond}
 use mathlib.Core.List.{List, [], _∷_, map}
-use Prim.Native.Nat.{ℕ, zero, suc, _≤_, _<_, min}
+use Prim.Native.Nat.{ℕ, zero, suc, _≤_, _<_}
 use native.Mathlib.Omega.{arith}
 use lib.Dec.{ltb}
-use lib.ListN.{length, getD, take, drop, length-map, length-take, drop-of-length-le}
+use lib.ListN.{length, getD, take, drop, length-map, length-take}
 use lib.Seq.{getD-take}
 use Rattle.figures.specs.Flat.{plain, sureRest, opens}
 use Rattle.figures.specs.Scan.{Stands}

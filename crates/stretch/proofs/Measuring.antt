@@ -1,19 +1,18 @@
 -- One process after the other: what the loop over them keeps, and what each answer of a process does to it. Assumes nothing.
-use mathlib.Core.Path.{_≡_, refl, ap, ap₂, sym, _∙_}
+use mathlib.Core.Path.{_≡_, refl, ap, sym, _∙_}
 use mathlib.Core.Bool.{Bool, true, false, cond}
 use mathlib.Core.List.{List, _∷_, map}
 use Prim.Native.Nat.{ℕ, _+_, _≤_, _<_, max, min}
 use native.Mathlib.Decide.{decLe}
 use native.Mathlib.Numerals.{add-one}
 use native.Mathlib.Omega.{arith}
-use lib.Dec.{leb}
 use lib.ListN.{length, getD, take, drop, length-take, drop-of-length-le}
 use lib.Seq.{drop-cons, getD-take, take-all}
 use borrow.Author.Tests.{le-leb, lt-leb}
 use Rattle.figures.specs.declared.Figures.{Figures}
-use Rattle.figures.specs.Flat.{Mark, fragment, deepest, nests}
+use Rattle.figures.specs.Flat.{Mark, deepest, nests}
 use Rattle.figures.specs.Stretch.{limit}
-use Rattle.figures.specs.Figures.{figures, stretchOf}
+use Rattle.figures.specs.Figures.{figures}
 use Rattle.figures.specs.Scan.{fragmentAt, Scanned}
 use Rattle.figures.proofs.Scanning.{nests-scannable}
 use Rattle.stretch.specs.declared.Alone.{Alone}

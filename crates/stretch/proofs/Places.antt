@@ -8,7 +8,7 @@ use lib.Seq.{getD-take}
 use Rattle.language.specs.declared.Heads.{Heads}
 use Rattle.stretch.specs.declared.Measured.the-variants.{Largest}
 use Rattle.stretch.specs.Marks.{marksBetween, processesFrom, processesOf, begins, stops}
-use Rattle.stretch.specs.Measured.{measuredFrom, measured}
+use Rattle.stretch.specs.Measured.{measured}
 use Rattle.stretch.specs.Reported.{process, Within, Says}
 use Rattle.stretch.proofs.Reports.{measured-reported}
 

@@ -9,7 +9,6 @@ use lib.ListN.{length, take, replicate}
 use lib.Seq.{take-at}
 use Rattle.reader.proofs.Tests.{both-left, both-right, by-cases}
 use Rattle.figures.specs.Flat as flat
-use Rattle.figures.specs.Flat.{Mark}
 use Rattle.figures.specs.Stretch.{limit}
 use Rattle.language.specs.declared.Fault.the-variants.{StretchTooLong}
 use Rattle.language.specs.declared.Table.{Table}
@@ -17,14 +16,14 @@ use Rattle.language.specs.Limits.{dataLimit, processLimit}
 use Rattle.language.specs.Script.{Statement, Item, does, next, Script, processes, default}
 use Rattle.language.specs.Stretch.{markOf, stretchOf, largestOf, largest}
 use Rattle.language.specs.Meaning.{isCapital, extension}
-use Rattle.language.specs.Draft.{Result, accepted, refused, stretched}
+use Rattle.language.specs.Draft.{accepted, refused, stretched}
 use Rattle.language.specs.Right.{encodeRight, settingsRight, allRight, dataIn, nests, allBelow}
 use Rattle.language.specs.Table.{endsFrom, headsOf, laidOut, scriptOf}
 use Rattle.language.proofs.Tables.{script-back}
 use Rattle.stretch.specs.declared.Measured.{Measured}
 use Rattle.stretch.specs.declared.Measured.the-variants.{Largest, Over, Broken}
 use Rattle.stretch.specs.Marks.{processesOf}
-use Rattle.stretch.specs.Measured.{stretchIn, measuredFrom, measured, isLargest}
+use Rattle.stretch.specs.Measured.{measuredFrom, measured, isLargest}
 use Rattle.stretch.proofs.Scripts.{marksOf, table-marks, allNest, nests-processes}
 
 -- what an answer says of processes that are told by their statements, `best` being the largest stretch and `number` - 1 the number of those before
@@ -128,3 +127,11 @@ module _ (t : Table) (some : 0 < length (take (t .heads .processes) (t .heads .e
   -- its script's loops nest and no stretch is too long just when there is a largest
   pub measured-right : isLargest (measured (t .cells) (t .heads)) ≡ (nests (scriptOf t .body) 0 && allBelow stretchOf (processes (scriptOf t .body)))
   measured-right = rw (table-marks t some, nests-processes (scriptOf t .body) 0) (right-from (processes (scriptOf t .body)) 1 0)
+
+  -- and that is its script's
+  pub measured-table : {k : ℕ} → measured (t .cells) (t .heads) ≡ Largest k → Answers (scriptOf t) (Largest k)
+  measured-table {k} e =
+      let s : Script = scriptOf t in
+      let nested : nests (s .body) 0 ≡ true = both-left (nests (s .body) 0) _ (sym measured-right ∙ ap isLargest e) in
+      let r : measuredFrom 1 0 (marksOf (processes (s .body))) ≡ Largest k = ap (measuredFrom 1 0) (sym (table-marks t some)) ∙ e in
+      answers s (Largest k) (subst (Verdict s (processes (s .body)) 1 0) r (verdict s (processes (s .body)) 1 0 (sym (nests-processes (s .body) 0) ∙ nested)))

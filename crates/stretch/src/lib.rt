@@ -8,12 +8,13 @@ use language::LOOPS;
 use language::coder::cell_at;
 ghost use mathlib.Core.Path.{_≡_};
 ghost use mathlib.Core.Bool.{cond};
-ghost use Prim.Native.Nat.{_+_, _≤_, max, min};
+ghost use Prim.Native.Nat.{_≤_, max, min};
 ghost use lib.Dec.{ltb};
 ghost use lib.ListN.{length, take};
 ghost use Rattle.figures.specs.Flat.{sureRest, plain, nests};
 ghost use Rattle.figures.specs.Figures.{looped, figures};
 ghost use Rattle.figures.specs.Scan.{fragmentAt, Scanned};
+ghost use Rattle.language.specs.Limits.{processLimit};
 ghost use Rattle.stretch.specs.Marks.{cellMark, marked, marksBetween, processesFrom};
 ghost use Rattle.stretch.specs.Measured.{alone, measuredFrom, measured};
 ghost use Rattle.stretch.specs.Reported.{Reported};
@@ -168,12 +169,14 @@ fn nested(cells: &Cells, at: usize, end: usize) -> bool
     opened == 0
 }
 
+// The smaller of two places.
 fn smaller(x: usize, y: usize) -> usize
     ensures { λ r. ⌜ r ≡ min x y ⌝ }
 {
     if x < y { x } else { y }
 }
 
+// The larger of two stretches.
 fn larger(x: u32, y: u32) -> u32
     ensures { λ r. ⌜ r ≡ max x y ⌝ }
 {
@@ -196,6 +199,7 @@ fn measure(cells: &Cells, from: usize, end: usize) -> Alone
     }
 }
 
+// The place that a process ends at.
 fn place(end: u16) -> usize
     ensures { λ r. ⌜ r ≡ end ⌝ }
 {
@@ -204,7 +208,7 @@ fn place(end: u16) -> usize
 
 // The first `count` processes, by the places behind their last cells.
 fn measure_all<'a>(cells: &'a Cells, ends: &'a [u16], count: usize) -> Measured
-    requires { ⌜ length (now ends) ≤ 8 ⌝ }
+    requires { ⌜ length (now ends) ≤ processLimit ⌝ }
     ensures { λ r. ⌜ r ≡ measuredFrom 1 0 (processesFrom (now (cells .entry)) 0 (take count (now (ends .entry)))) ⌝ }
 {
     let processes = smaller(count, ends.len());
