@@ -2,7 +2,6 @@
 ghost use mathlib.Core.Path.{_≡_};
 ghost use lib.ListN.{take};
 ghost use Rattle.accepted.specs.Reach.{endsReach};
-
 use crate::Reach;
 
 fn wide(x: u16) -> usize

@@ -8,15 +8,13 @@ ghost use Rattle.language.specs.Limits.{linesLimit};
 ghost use Rattle.accepted.specs.Accepted.{tableRight};
 ghost use Rattle.accepted.specs.Tests.{endsOf, inUse, endsRight, cellsRight, settingsFit, linesIn};
 ghost use Rattle.accepted.specs.Reach.{endsReach, wordsReach};
-
-use language::{Cells, Heads, Pool};
+use language::Cells;
+use language::Heads;
+use language::Pool;
 
 mod ends;
-
 mod settings;
-
 mod statements;
-
 mod zeros;
 
 // How far a pass over the ends or the cells comes: to a place, or not to the end.

@@ -12,9 +12,11 @@ ghost use Rattle.language.specs.Table.{dataAt};
 ghost use Rattle.language.specs.Cell.{cellRight};
 ghost use Rattle.accepted.specs.Tests.{cellFits, bytesIn};
 ghost use Rattle.accepted.specs.Reach.{wordsReach};
-
 use crate::Reach;
-use language::{Cell, Cells, Pool, Span};
+use language::Cell;
+use language::Cells;
+use language::Pool;
+use language::Span;
 
 fn wide(x: u16) -> usize
     ensures { λ r. ⌜ r ≡ x ⌝ }

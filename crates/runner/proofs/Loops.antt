@@ -5,6 +5,7 @@ use mathlib.Core.List.{List, [], _∷_, _++_, map, append-assoc}
 use Prim.Native.Nat.{ℕ, zero, suc, _+_, _≤_, _<_, min}
 use native.Mathlib.Numerals.{add-one}
 use native.Mathlib.Omega.{arith}
+use Rattle.reader.proofs.Tests.{both-left, both-right}
 use Rattle.runner.specs.Events.{any, every}
 use lib.ListN.{length, getD, take, drop, set, length-take, length-map, drop-of-length-le}
 use lib.Seq.{take-suc, drop-cons, take-all, set-at, getD-at, length-take-le}
@@ -31,6 +32,11 @@ module _ {A : Type 0} (f : A → Bool) (l : List A) (i : ℕ) (d : A) where
 pub every-end : {A : Type 0} (f : A → Bool) (l : List A) (i : ℕ) → length l ≤ i → every f (drop i l) ≡ true
 every-end f l i h = rw (drop-of-length-le l h)
 
+pub every-at : {A : Type 0} (f : A → Bool) (l : List A) (i : ℕ) (d : A) → every f l ≡ true → i < length l → f (getD l i d) ≡ true
+every-at f [] i d e h = absurd (omega arith)
+every-at f (x ∷ l) zero d e h = both-left (f x) (every f l) e
+every-at f (x ∷ l) (suc i) d e h = every-at f l i d (both-right (f x) (every f l) e) (omega arith)
+
 -- A loop that maps each element in place: i of them are done.
 abbrev pub done : {A : Type 0} → (A → A) → ℕ → List A → List A
 done f i l = map f (take i l) ++ drop i l
@@ -52,7 +58,7 @@ module _ {A : Type 0} (f : A → A) where
     long = length-map (take i l) f ∙ length-take-le i l (omega arith)
 
     -- element i is as it was
-    done-at : getD (done f i l) i d ≡ getD l i d
+    pub done-at : getD (done f i l) i d ≡ getD l i d
     done-at = rw (drop-cons l i d h) (getD-at (map f (take i l)) (getD l i d) (drop (suc i) l) d i long)
 
     stored : set (done f i l) i (f (getD (done f i l) i d)) ≡ done f (i + 1) l
@@ -70,3 +76,8 @@ module _ {A : Type 0} (f : A → A) where
   -- a turn of the loop: element i of the list so far is read, mapped and stored
   pub done-more : (l : List A) (i : ℕ) (d : A) {next : List A} {y : A} → i < length l → next ≡ done f i l → y ≡ f (getD next i d) → set next i y ≡ done f (i + 1) l
   done-more l i d {next} {y} h e g = cc (stored l i d h)
+
+-- an element that is to be mapped next passes what each element passed at the start
+pub every-done : {A : Type 0} (f : A → A) (p : A → Bool) (l : List A) (i : ℕ) (d : A) {next : List A} → every p l ≡ true → i < length l → next ≡ done f i l
+    → p (getD next i d) ≡ true
+every-done f p l i d e h n = ap p (ap (λ x. getD x i d) n ∙ done-at f l i d h) ∙ every-at p l i d e h

@@ -1,6 +1,6 @@
 -- Laws of what WAIT DATA has matched, as the code walks them: byte by byte, and down from the longest overlap. Assumes nothing.
 use mathlib.Core.Path.{_≡_, refl, sym, ap, _∙_}
-use mathlib.Core.Bool.{Bool, true, false, _&&_}
+use mathlib.Core.Bool.{Bool, true, false, cond, _&&_}
 use mathlib.Core.List.{List, [], _∷_, _++_}
 use Prim.Native.Nat.{ℕ, zero, suc, _+_, _-_, _≤_, _<_}
 use native.Mathlib.Numerals.{add-one}
@@ -97,3 +97,15 @@ advance-hit d k b h e =
     let one-more : recent d k b ≡ take (k + 1) d = rw (add-one k, take-suc d k 0 h, e) in
     let none : length (recent d k b) - (k + 1) ≡ 0 = omega (arith, recent-length d k b h) in
     sym (advance-from d k b h ∙ longest-here d (recent d k b) (k + 1) (omega arith) (is-same (sym one-more ∙ ap (λ (n : ℕ). drop n (recent d k b)) (sym none))))
+
+-- at most one byte more is matched
+longest-le : (d xs : List ℕ) (n : ℕ) → longest d xs n ≤ n
+longest-le d xs zero = omega arith
+longest-le d xs (suc n) = go (same (take (suc n) d) (last (suc n) xs)) (longest-le d xs n)
+  where
+    go : (t : Bool) → longest d xs n ≤ n → cond t (suc n) (longest d xs n) ≤ suc n
+    go true h = omega arith
+    go false h = omega arith
+
+pub advance-le : (d : List ℕ) (k b : ℕ) → k < length d → advance d k b ≤ k + 1
+advance-le d k b h = rw (advance-from d k b h) (longest-le d (recent d k b) (k + 1))

@@ -8,12 +8,24 @@ ghost use lib.Dec.{leb};
 ghost use Rattle.runner.specs.Waiting.{ready, withWait, ticked, awaited, byteWait, byteTaken, progressRight, waitRight, rangeRight, readingTaken, levelTaken};
 ghost use Rattle.runner.specs.Recording.{oneOf, copies};
 ghost use Rattle.runner.specs.Events.{any, every, busy, refused, tickEvent, readingRight, readingEvent, levelEvent, rangesRight, byteEvent};
-
+use crate::ByteEvent;
+use crate::Copies;
+use crate::Event;
+use crate::Process;
+use crate::Progress;
+use crate::Reading;
+use crate::Received;
+use crate::Refusal;
+use crate::State;
+use crate::Taken;
+use crate::Wait;
 use crate::matching::advanced;
 use crate::waits::awaken;
 use crate::waits::both;
-use crate::{ByteEvent, Copies, Event, Process, Progress, Reading, Received, Refusal, State, Taken, Wait};
-use language::{Heads, Level, PROCESSES, Pool};
+use language::Heads;
+use language::Level;
+use language::PROCESSES;
+use language::Pool;
 
 impl Process {
     pub fn is_ready(self) -> bool

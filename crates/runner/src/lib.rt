@@ -2,12 +2,10 @@
 use language::Clock;
 
 pub mod events;
-
 mod matching;
-
 pub mod receiving;
-
 mod waits;
+
 use language::LINES;
 use language::LOOPS;
 use language::Level;

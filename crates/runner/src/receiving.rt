@@ -3,17 +3,26 @@ ghost use mathlib.Core.Path.{_≡_};
 ghost use mathlib.Core.Bool.{Bool, true, _&&_};
 ghost use mathlib.Core.List.{map};
 ghost use Prim.Native.Nat.{_+_, _≤_};
-ghost use lib.ListN.{take, drop};
+ghost use lib.ListN.{length, take, drop};
 ghost use Rattle.runner.specs.Matching.{advance};
 ghost use Rattle.runner.specs.Waiting.{awaited, matchedWait, byteWait, byteTaken, progressRight, waitRight, rangeRight};
 ghost use Rattle.runner.specs.Recording.{oneOf, copies};
-ghost use Rattle.runner.specs.Events.{every, rangesRight, byteEvent};
-
+ghost use Rattle.runner.specs.Events.{every, answeredWith, byteEvent};
+use crate::ByteEvent;
+use crate::Copies;
+use crate::Process;
+use crate::Progress;
+use crate::Received;
+use crate::Refusal;
+use crate::State;
+use crate::Wait;
 use crate::events::any_ready;
 use crate::matching::advanced;
-use crate::waits::{awaken, both};
-use crate::{ByteEvent, Copies, Process, Progress, Received, Refusal, State, Wait};
-use language::{Heads, PROCESSES, Pool};
+use crate::waits::awaken;
+use crate::waits::both;
+use language::Heads;
+use language::PROCESSES;
+use language::Pool;
 
 fn wide(x: u16) -> usize
     ensures { λ r. ⌜ r ≡ x ⌝ }
@@ -31,7 +40,7 @@ fn progress_right(m: Progress) -> bool
 // The data of a wait.
 fn awaited_data(pool: &Pool, m: Progress) -> &[u8]
     requires { ⌜ m .from + m .count ≤ 1024 ⌝ }
-    ensures { λ r. ⌜ now r ≡ awaited (now (pool .entry)) m ⌝ }
+    ensures { λ r. ⌜ (now r ≡ awaited (now (pool .entry)) m) × (length (now r) ≡ m .count) ⌝ }
 {
     let from = wide(m.from);
     let count = wide(m.count);
@@ -100,4 +109,113 @@ impl Wait {
             Wait::Signal(_) => self,
         }
     }
+}
+
+impl Process {
+    fn range_right(self) -> bool
+        ensures { λ r. ⌜ r ≡ rangeRight self ⌝ }
+    {
+        let w = self.wait;
+        w.right()
+    }
+
+    fn byte(self, pool: &Pool, b: u8) -> Self
+        requires { ⌜ rangeRight self ≡ true ⌝ }
+        ensures { λ r. ⌜ r ≡ byteTaken (now (pool .entry)) b self ⌝ }
+    {
+        let w = self.wait;
+        self.with(w.byte(pool, b, self.place, self.end))
+    }
+}
+
+// Whether every data range that the event must use lies within the pool.
+fn all_right(ps: [Process; PROCESSES]) -> bool
+    ensures { λ r. ⌜ r ≡ every rangeRight ps ⌝ }
+{
+    for i in 0..8 {
+        let p = ps[i];
+        if p.range_right() {} else {
+            return false;
+        }
+    }
+    true
+}
+
+// Whether a byte is one of the first of some.
+fn is_one_of(bytes: &[u8], count: usize, b: u8) -> bool
+    ensures { λ r. ⌜ r ≡ oneOf (take count (now (bytes .entry))) b ⌝ }
+{
+    let mut i = 0usize;
+    while i < bytes.len() {
+        if count <= i {
+            return false;
+        }
+        if bytes[i] == b {
+            return true;
+        }
+        i += 1;
+    }
+    false
+}
+
+fn all_byte(ps: [Process; PROCESSES], pool: &Pool, b: u8) -> [Process; PROCESSES]
+    requires { ⌜ every rangeRight ps ≡ true ⌝ }
+    ensures { λ r. ⌜ r ≡ map (byteTaken (now (pool .entry)) b) ps ⌝ }
+{
+    let mut next = ps;
+    for i in 0..8 {
+        let p = next[i];
+        next[i] = p.byte(pool, b);
+    }
+    next
+}
+
+// How often a byte is recorded: "not at all if paused or in OMIT; in all other cases twice if it is the ENCODE byte".
+fn recorded(heads: Heads, paused: bool, b: u8) -> u8
+    ensures { λ r. ⌜ r ≡ copies heads paused b ⌝ }
+{
+    if paused {
+        return 0;
+    }
+    let omit = heads.omit;
+    if is_one_of(&omit, heads.omits as usize, b) {
+        return 0;
+    }
+    if heads.encodes {
+        if heads.encode == b {
+            return 2;
+        }
+        return 1;
+    }
+    1
+}
+
+fn answer(s: State, a: Received) -> ByteEvent
+    ensures { λ r. ⌜ r ≡ answeredWith s a ⌝ }
+{
+    ByteEvent {
+        state: s,
+        answer: a,
+    }
+}
+
+// A received byte.
+pub fn receive(pool: &Pool, heads: Heads, s: State, b: u8) -> ByteEvent
+    ensures { λ r. ⌜ r ≡ byteEvent (now (pool .entry)) heads s b ⌝ }
+{
+    let ps = s.processes;
+    if 10 < heads.omits {
+        return answer(s, Received::Refused(Refusal::BadTable));
+    }
+    if all_right(ps) {
+        if any_ready(ps) {
+            return answer(s, Received::Refused(Refusal::Busy));
+        }
+        let count = recorded(heads, s.paused, b);
+        let next = all_byte(ps, pool, b);
+        let mut t = s;
+        t.processes = next;
+        return answer(t, Received::Took(Copies { count }));
+    }
+    answer(s, Received::Refused(Refusal::BadTable))
 }

@@ -4,9 +4,12 @@ ghost use mathlib.Core.Bool.{_&&_};
 ghost use lib.ListN.{length, take, drop};
 ghost use Rattle.runner.specs.Matching.{advance};
 ghost use Rattle.runner.specs.Waiting.{readyWait, awake, tickedWait, awaited, matchedTo, matchedWait, byteWait, progressRight, waitRight, unitMatches, matches, readingWait, sameLevel, sets, levelWait};
-
-use crate::{Progress, Reading, Wait};
-use language::{Clock, Level, Pool};
+use crate::Progress;
+use crate::Reading;
+use crate::Wait;
+use language::Clock;
+use language::Level;
+use language::Pool;
 
 // "One past its last statement is never ready again."
 pub fn awaken(place: u16, end: u16) -> Wait

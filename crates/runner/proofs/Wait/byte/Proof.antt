@@ -24,7 +24,7 @@ awaken-requires c κs = search needs
 
 returns : tie.Need-returns
 returns c = let w = c .before .before .before in
-    let a = w .before .before .before .args in
+    let a = w .before .before .args in
     c .awaken .ensures ∙ sym (ap (byteWait (now (a .pool)) (a .b) (a .place) (a .end)) (w .self .given .1) ∙ bytes-end (a .place) (a .end) (now (a .pool)) (a .b) _ (c .before .if1 .taken))
 
 sub-t10 : tie.Need-sub-t10
@@ -34,7 +34,7 @@ enum-known-self-2 : tie.Need-enum-known-self-2
 enum-known-self-2 c = search needs
 
 match-byte-requires : tie.Need-match-byte-requires
-match-byte-requires c κs = ?
+match-byte-requires c κs = sym (ap waitRight (c .before .self2 .given .1)) ∙ c .before .before .before .pre
 
 enum-told-4 : tie.Need-enum-told-4
 enum-told-4 c = search needs
@@ -52,10 +52,14 @@ returns-4 : tie.Need-returns-4
 returns-4 c = search needs
 
 returns-5 : tie.Need-returns-5
-returns-5 c = ?
+returns-5 c = let w = c .before .before in
+    let a = w .before .before .args in
+    sym (ap (byteWait (now (a .pool)) (a .b) (a .place) (a .end)) (w .self .given .1) ∙ bytes-stay (a .place) (a .end) (now (a .pool)) (a .b) _ (c .if1 .left))
 
 returns-6 : tie.Need-returns-6
-returns-6 c = ?
+returns-6 c = let w = c .before .before in
+    let a = w .before .before .args in
+    c .match-byte .ensures ∙ sym (ap (byteWait (now (a .pool)) (a .b) (a .place) (a .end)) (w .self2 .given .1))
 
 returns-7 : tie.Need-returns-7
 returns-7 c = search needs

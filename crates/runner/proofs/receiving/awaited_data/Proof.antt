@@ -1,8 +1,10 @@
 -- `runner::receiving::awaited_data` meets its contract. Assumes nothing.
-use mathlib.Core.Path.{_≡_}
+use lib.ListN.{length}
+use denote.Ref.{now}
+use mathlib.Core.Path.{_≡_, ap, _∙_}
 use Prim.Native.Nat.{_+_, _-_}
 use native.Mathlib.Omega.{arith}
-use Rattle.runner.proofs.WaitCases.{part-is}
+use Rattle.runner.proofs.WaitCases.{part-is, awaited-length}
 use borrow.Author.Needs.{needs}
 use Rattle.runner.proofs.receiving.awaited_data.Statement.{statement}
 use Rattle.runner.proofs.receiving.awaited_data.Tie as tie
@@ -26,7 +28,10 @@ part-result-end : tie.Need-part-result-end
 part-result-end c = search needs
 
 returns : tie.Need-returns
-returns c = part-is _ _ _ (c .before .before .before .wide .ensures) (c .before .before .wide2 .ensures)
+returns c = let a = c .before .before .before .before .args in
+    let n : length (now (a .pool)) ≡ 1024 = search needs in
+    let e = part-is (now (a .pool)) (a .m) (c .before .before .before .wide .ensures) (c .before .before .wide2 .ensures) in
+    (e, ap length e ∙ awaited-length (now (a .pool)) (a .m) n (c .before .before .before .before .pre))
 
 pub awaited-data-spec : {M : Type 1} → statement M
 awaited-data-spec =

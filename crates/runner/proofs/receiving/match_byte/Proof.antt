@@ -1,5 +1,10 @@
 -- `runner::receiving::match_byte` meets its contract. Assumes nothing.
-use mathlib.Core.Path.{sym, ap, _∙_}
+use Rattle.runner.proofs.Overlaps.{advance-le}
+use Rattle.runner.specs.Waiting.{matchedWait}
+use Rattle.runner.specs.Matching.{advance}
+use mathlib.Core.List.{List}
+use Prim.Native.Nat.{ℕ, _<_}
+use mathlib.Core.Path.{ap, ap₂, _∙_}
 use native.Mathlib.Omega.{arith}
 use denote.Ref.{now}
 use lib.ListN.{length}
@@ -18,10 +23,19 @@ advanced-requires : tie.Need-advanced-requires
 advanced-requires c κs = search needs
 
 matched-requires : tie.Need-matched-requires
-matched-requires c κs = ?
+matched-requires c κs = let w = c .before .before in
+    let m = w .before .args .m in
+    let l : c .before .wide .result < length (now (w .awaited-data .result)) = omega (arith, w .awaited-data .ensures .1, c .before .wide .ensures, within-data m (w .before .pre)) in
+    omega (arith, c .advanced .ensures l, advance-le (now (w .awaited-data .result)) (c .before .wide .result) (w .before .args .b) l, within-data m (w .before .pre), within-pool m (w .before .pre), c .before .wide .ensures)
 
 returns : tie.Need-returns
-returns c = ?
+returns c = let w = c .before .before .before in
+    let m = w .before .args .m in
+    let l : c .before .before .wide .result < length (now (w .awaited-data .result)) = omega (arith, w .awaited-data .ensures .1, c .before .before .wide .ensures, within-data m (w .before .pre)) in
+    c .matched .ensures
+    ∙ ap (matchedWait (w .before .args .place) (w .before .args .end) m)
+    (c .before .advanced .ensures l
+    ∙ ap₂ (λ (d : List ℕ) (k : ℕ). advance d k (w .before .args .b)) (w .awaited-data .ensures .0) (c .before .before .wide .ensures))
 
 pub match-byte-spec : {M : Type 1} → statement M
 match-byte-spec =
