@@ -8,3 +8,5 @@ pub mod Passing
 pub mod Each
 pub mod Reaching
 pub mod Data
+pub mod Extension
+pub mod Accepting

@@ -101,13 +101,16 @@ cellsRight cells pool h =
     && (zeros (drop (inUse h) cells)
     && (eqb (h .used) (wordsEnd 0 (take (inUse h) cells)) && (leb (h .used) dataLimit && zeros (drop (h .used) pool))))
 
+-- letters that LFEXT can have, and nothing behind them
+abbrev pub extensionFits : List ℕ → Bool
+extensionFits e = extension (lettersOf e) && zeros (drop (length (lettersOf e)) e)
+
 -- settings that lines can have, and nothing behind them
 unfoldable pub settingsFit : Heads → Bool
 settingsFit h =
     cond (h .encodes) true (eqb (h .encode) 0)
     && (leb (h .omits) omitLimit
-    && (zeros (drop (h .omits) (h .omit))
-    && (extension (lettersOf (h .extension)) && zeros (drop (length (lettersOf (h .extension))) (h .extension)))))
+    && (zeros (drop (h .omits) (h .omit)) && extensionFits (h .extension)))
 
 abbrev pub one : Bool → ℕ
 one true = 1

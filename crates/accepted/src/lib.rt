@@ -1,16 +1,11 @@
 // The exact test whether some accepted script has a table: one pass over the cells in use, and the heads.
 ghost use mathlib.Core.Path.{_≡_};
-ghost use mathlib.Core.Bool.{_&&_};
-ghost use Prim.Native.Nat.{_≤_, _<_};
-ghost use lib.Dec.{leb};
-ghost use lib.ListN.{length, take};
-ghost use Rattle.language.specs.Limits.{linesLimit};
 ghost use Rattle.accepted.specs.Accepted.{tableRight};
-ghost use Rattle.accepted.specs.Tests.{endsOf, inUse, endsRight, cellsRight, settingsFit, linesIn};
-ghost use Rattle.accepted.specs.Reach.{endsReach, wordsReach};
 use language::Cells;
 use language::Heads;
 use language::Pool;
+use stretch::Measured;
+use stretch::largest;
 
 mod ends;
 mod settings;
@@ -21,4 +16,31 @@ mod zeros;
 pub enum Reach {
     To(usize),
     Not,
+}
+
+/// Whether some accepted script has this table.
+pub fn is_accepted<'a>(cells: &'a Cells, pool: &'a Pool, heads: Heads) -> bool
+    ensures { λ r. ⌜ r ≡ tableRight (record { cells = now (cells .entry); pool = now (pool .entry); heads = heads }) ⌝ }
+{
+    let words: &[u32] = cells;
+    let bytes: &[u8] = pool;
+    let reach = ends::cells_in_use(heads);
+    match reach {
+        Reach::To(in_use) => {
+            if statements::cells_right(cells, pool, heads, in_use) {
+                if settings::settings_fit(heads) {
+                    if settings::lines(heads, in_use) <= 512 {
+                        let measured = largest(cells, heads);
+                        return match measured {
+                            Measured::Largest(_) => true,
+                            Measured::Over(_) => false,
+                            Measured::Broken => false,
+                        };
+                    }
+                }
+            }
+            false
+        }
+        Reach::Not => false,
+    }
 }
