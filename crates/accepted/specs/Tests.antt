@@ -5,7 +5,7 @@ use mathlib.Core.List.{List, [], _∷_}
 use lib.ListN.{length, getD, take, drop}
 use lib.Dec.{ltb, leb, eqb}
 use Rattle.reader.specs.Ascii.{ascii}
-use Rattle.reader.specs.Bytes.{same}
+use Rattle.reader.specs.Bytes.{all, same}
 use Rattle.language.specs.declared.Span.{Span}
 use Rattle.language.specs.declared.Cell.{Cell}
 use Rattle.language.specs.declared.Cell.the-variants.{Nothing, Send, Loop, End, WaitTime, WaitData, WaitByte, WaitClock, WaitSignal, Rts, Log, Fchange, Pause, Resume, Nop, Unknown}
@@ -18,9 +18,12 @@ use Rattle.language.specs.Table.{dataAt, lettersOf}
 use Rattle.stretch.specs.Measured.{measured, isLargest}
 
 -- "unused cells are zero"
+abbrev pub isZero : ℕ → Bool
+isZero b = eqb b 0
+
+-- nothing but zeros
 unfoldable pub zeros : List ℕ → Bool
-zeros [] = true
-zeros (b ∷ l) = eqb b 0 && zeros l
+zeros l = all isZero l
 
 -- data begin where those before them end
 unfoldable pub follows : ℕ → Span → Bool
@@ -104,13 +107,16 @@ cellsRight cells pool h =
     && (zeros (drop (inUse h) cells)
     && (eqb (h .used) (wordsEnd 0 (take (inUse h) cells)) && (leb (h .used) dataLimit && zeros (drop (h .used) pool))))
 
+-- letters that LFEXT can have, and nothing behind them
+abbrev pub extensionFits : List ℕ → Bool
+extensionFits e = extension (lettersOf e) && zeros (drop (length (lettersOf e)) e)
+
 -- settings that lines can have, and nothing behind them
 unfoldable pub settingsFit : Heads → Bool
 settingsFit h =
     cond (h .encodes) true (eqb (h .encode) 0)
     && (leb (h .omits) omitLimit
-    && (zeros (drop (h .omits) (h .omit))
-    && (extension (lettersOf (h .extension)) && zeros (drop (length (lettersOf (h .extension))) (h .extension)))))
+    && (zeros (drop (h .omits) (h .omit)) && extensionFits (h .extension)))
 
 -- a line that stands there or not
 abbrev pub one : Bool → ℕ

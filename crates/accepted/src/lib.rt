@@ -1,1 +1,46 @@
-// The exact test whether some accepted script has a table.
+// The exact test whether some accepted script has a table: one pass over the cells in use, and the heads.
+ghost use mathlib.Core.Path.{_≡_};
+ghost use Rattle.accepted.specs.Accepted.{tableRight};
+use language::Cells;
+use language::Heads;
+use language::Pool;
+use stretch::Measured;
+use stretch::largest;
+
+mod ends;
+mod settings;
+mod statements;
+mod zeros;
+
+// How far a pass over the ends or the cells comes: to a place, or not to the end.
+pub enum Reach {
+    To(usize),
+    Not,
+}
+
+/// Whether some accepted script has this table.
+pub fn is_accepted<'a>(cells: &'a Cells, pool: &'a Pool, heads: Heads) -> bool
+    ensures { λ r. ⌜ r ≡ tableRight (record { cells = now (cells .entry); pool = now (pool .entry); heads = heads }) ⌝ }
+{
+    let words: &[u32] = cells;
+    let bytes: &[u8] = pool;
+    let reach = ends::cells_in_use(heads);
+    match reach {
+        Reach::To(in_use) => {
+            if statements::cells_right(cells, pool, heads, in_use) {
+                if settings::settings_fit(heads) {
+                    if settings::lines(heads, in_use) <= 512 {
+                        let measured = largest(cells, heads);
+                        return match measured {
+                            Measured::Largest(_) => true,
+                            Measured::Over(_) => false,
+                            Measured::Broken => false,
+                        };
+                    }
+                }
+            }
+            false
+        }
+        Reach::Not => false,
+    }
+}

@@ -8,6 +8,7 @@ use language::Fault;
 mod clocks;
 mod names;
 mod settings;
+pub mod spelling;
 mod texts;
 mod times;
 mod waits;

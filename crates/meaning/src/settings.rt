@@ -1,9 +1,10 @@
 // RTS and the f: lines: what stands behind each name.
 ghost use mathlib.Core.Path.{_≡_};
-ghost use Rattle.language.specs.Meaning.{rtsOf, exIn, stopbitsOf, encodeOf, raised, isCapital, lfextOf};
+ghost use Rattle.language.specs.Meaning.{rtsOf, exIn, stopbitsOf, encodeOf, raised, lfextOf};
 ghost use Rattle.meaning.specs.Line.{shown};
 use super::Letters;
 use super::Line;
+use super::spelling::is_capital;
 use super::words::is_name;
 use language::Cell;
 use language::Fault;
@@ -74,22 +75,6 @@ fn raise(b: u8) -> u8
         return b;
     }
     b - 32
-}
-
-// Whether a byte is a capital letter or a digit.
-fn is_capital(b: u8) -> bool
-    ensures { λ r. ⌜ r ≡ isCapital b ⌝ }
-{
-    if b < b'0' {
-        return false;
-    }
-    if b <= b'9' {
-        return true;
-    }
-    if b < b'A' {
-        return false;
-    }
-    b <= b'Z'
 }
 
 // LFEXT: one to three letters or digits.

@@ -1,17 +1,17 @@
 // Lines with data: text as it stands, hex data, and LOG's text with its signs.
 ghost use Prim.Native.Nat.{_≤_};
 ghost use mathlib.Core.Path.{_≡_};
-ghost use mathlib.Core.Bool.{false};
 ghost use lib.ListN.{length};
 ghost use lib.Seq.{sets};
 ghost use Rattle.reader.specs.Words.{skip};
 ghost use Rattle.reader.specs.Hex.{hexAt};
 ghost use Rattle.language.specs.Script.{send, says};
-ghost use Rattle.language.specs.Meaning.{sendSays, markedData, dataSays, omitSays, isSign, signs, logOf};
+ghost use Rattle.language.specs.Meaning.{sendSays, markedData, dataSays, omitSays, logOf};
 ghost use Rattle.meaning.specs.Tells.{Tells, Finds};
 use super::Data;
 use super::Found;
 use super::Line;
+use super::spelling::right_signs;
 use language::Cell;
 use language::Fault;
 use language::Span;
@@ -106,47 +106,6 @@ pub(crate) fn omit(rest: &[u8], bytes: &mut Data) -> Line
         Found::Bytes(count) => Line::Omit(count as u8),
         Found::Bad(_) => Line::Faulty(Fault::BadRest),
     }
-}
-
-// Whether a byte may follow `@`.
-fn is_sign(b: u8) -> bool
-    ensures { λ r. ⌜ r ≡ isSign b ⌝ }
-{
-    match b {
-        b'c' => true,
-        b'Y' => true,
-        b'M' => true,
-        b'D' => true,
-        b'h' => true,
-        b'm' => true,
-        b's' => true,
-        b'@' => true,
-        b'r' => true,
-        b'n' => true,
-        _ => false,
-    }
-}
-
-// Whether every `@` begins a sign.
-fn right_signs(text: &[u8]) -> bool
-    ensures { λ r. ⌜ r ≡ signs (now (text .entry)) false ⌝ }
-{
-    let mut i = 0usize;
-    while i < text.len() {
-        let next = i + 1;
-        if text[i] == b'@' {
-            if text.len() <= next {
-                return false;
-            }
-            if !is_sign(text[next]) {
-                return false;
-            }
-            i = next + 1;
-        } else {
-            i = next;
-        }
-    }
-    true
 }
 
 // LOG: one space and text, or nothing.

@@ -2,8 +2,8 @@
 use mathlib.Core.Path.{refl}
 use Rattle.language.specs.Meaning.{isSign}
 use Rattle.meaning.proofs.Signing.{sign-is, no-sign}
-use Rattle.meaning.proofs.texts.is_sign.Statement.{statement}
-use Rattle.meaning.proofs.texts.is_sign.Tie as tie
+use Rattle.meaning.proofs.spelling.is_sign.Statement.{statement}
+use Rattle.meaning.proofs.spelling.is_sign.Tie as tie
 
 returns : tie.Need-returns
 unfolding isSign

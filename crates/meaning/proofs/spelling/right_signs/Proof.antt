@@ -5,8 +5,8 @@ use native.Mathlib.Omega.{arith}
 use lib.ListN.{length}
 use borrow.Author.Tests.{not-true, not-false}
 use Rattle.meaning.proofs.Signing.{Signing, all-right, no-at, no-more, bad-sign, good-sign}
-use Rattle.meaning.proofs.texts.right_signs.Statement.{statement}
-use Rattle.meaning.proofs.texts.right_signs.Tie as tie
+use Rattle.meaning.proofs.spelling.right_signs.Statement.{statement}
+use Rattle.meaning.proofs.spelling.right_signs.Tie as tie
 
 abbrev Inv-loop : tie.InvT-loop
 Inv-loop text i₀ i = Signing text i

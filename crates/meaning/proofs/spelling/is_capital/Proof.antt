@@ -3,8 +3,8 @@ use Prim.Native.Nat.{_<_}
 use native.Mathlib.Omega.{arith}
 use borrow.Author.Tests.{le-leb, lt-leb}
 use Rattle.language.specs.Meaning.{isCapital}
-use Rattle.meaning.proofs.settings.is_capital.Statement.{statement}
-use Rattle.meaning.proofs.settings.is_capital.Tie as tie
+use Rattle.meaning.proofs.spelling.is_capital.Statement.{statement}
+use Rattle.meaning.proofs.spelling.is_capital.Tie as tie
 
 returns : tie.Need-returns
 unfolding isCapital

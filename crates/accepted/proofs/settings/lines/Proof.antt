@@ -1,0 +1,48 @@
+-- `accepted::settings::lines` meets its contract. Assumes nothing.
+use native.Mathlib.Omega.{arith}
+use Rattle.accepted.specs.Tests.{linesIn}
+use borrow.Author.Needs.{needs}
+use Rattle.accepted.proofs.settings.lines.Statement.{statement}
+use Rattle.accepted.proofs.settings.lines.Tie as tie
+
+wide-requires : tie.Need-wide-requires
+wide-requires c κs = search needs
+
+sub-behind : tie.Need-sub-behind
+sub-behind c = search needs
+
+setting-lines-requires : tie.Need-setting-lines-requires
+setting-lines-requires c κs = search needs
+
+first-empty-requires : tie.Need-first-empty-requires
+first-empty-requires c κs = search needs
+
+count-requires : tie.Need-count-requires
+count-requires c κs = search needs
+
+add-result : tie.Need-add-result
+add-result c = search needs
+
+add-result-2 : tie.Need-add-result-2
+add-result-2 c = omega arith
+
+add-result-3 : tie.Need-add-result-3
+add-result-3 c = omega arith
+
+returns : tie.Need-returns
+unfolding linesIn
+returns c = cc
+
+pub lines-spec : {M : Type 1} → statement M
+lines-spec =
+    tie.close
+    (tie.spec
+    wide-requires
+    sub-behind
+    setting-lines-requires
+    first-empty-requires
+    count-requires
+    add-result
+    add-result-2
+    add-result-3
+    returns)
