@@ -125,7 +125,7 @@ hex-byte-reads (a ∷ l) =
 
 -- ---- clock values
 
-pair-reads : (r : Range) (l : List ℕ) → Reads (λ v. within r v ≡ true) (pairAt (r .low) (r .high) l 0)
+pub pair-reads : (r : Range) (l : List ℕ) → Reads (λ v. within r v ≡ true) (pairAt (r .low) (r .high) l 0)
 unfolding pairAt pairOf secondOf within
 pair-reads r [] = tt
 pair-reads r (a ∷ []) =

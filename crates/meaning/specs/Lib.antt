@@ -1,1 +1,4 @@
 pub mod Line
+pub mod Parts
+pub mod Tells
+pub mod Names

@@ -1,0 +1,53 @@
+-- `loop_or_log` meets its contract: each `return` is an entry of the table. Assumes nothing.
+use Rattle.language.specs.Meaning.{loopOf}
+use Rattle.meaning.proofs.Naming.{tells-as, with-argument, no-name}
+use Rattle.meaning.proofs.Dataless.{loop-quiet}
+use Rattle.meaning.proofs.Choosing.{loop-named, log-named, neither-l}
+use borrow.Author.Needs.{needs}
+use Rattle.meaning.proofs.names.loop_or_log.Statement.{statement}
+use Rattle.meaning.proofs.names.loop_or_log.Tie as tie
+
+slice-aggregate-is-name : tie.Need-slice-aggregate-is-name
+slice-aggregate-is-name c = search needs
+
+is-name-requires : tie.Need-is-name-requires
+is-name-requires c κs = search needs
+
+argument-requires : tie.Need-argument-requires
+argument-requires c κs = search needs
+
+loop-count-requires : tie.Need-loop-count-requires
+loop-count-requires c κs = search needs
+
+returns : tie.Need-returns
+returns c = tells-as (loop-named _ _ (c .before .before .before .is-name .ensures) (c .before .before .if1 .taken)) (with-argument loopOf _ loop-quiet (c .loop-count .ensures) (c .before .argument .ensures))
+
+slice-aggregate-is-name-2 : tie.Need-slice-aggregate-is-name-2
+slice-aggregate-is-name-2 c = search needs
+
+is-name-requires-2 : tie.Need-is-name-requires-2
+is-name-requires-2 c κs = search needs
+
+log-requires : tie.Need-log-requires
+log-requires c κs = search needs
+
+returns-2 : tie.Need-returns-2
+returns-2 c = tells-as (log-named _ _ (c .before .before .before .is-name2 .ensures) (c .before .before .if2 .taken)) (c .log .ensures)
+
+returns-3 : tie.Need-returns-3
+returns-3 c = tells-as (neither-l _ _ (c .before .before .before .before .is-name .ensures) (c .before .before .before .if1 .left) (c .before .is-name2 .ensures) (c .if2 .left)) (no-name _)
+
+pub loop-or-log-spec : {M : Type 1} → statement M
+loop-or-log-spec =
+    tie.close
+    (tie.spec
+    slice-aggregate-is-name
+    is-name-requires
+    argument-requires
+    loop-count-requires
+    returns
+    slice-aggregate-is-name-2
+    is-name-requires-2
+    log-requires
+    returns-2
+    returns-3)

@@ -1,0 +1,73 @@
+-- `of_four` meets its contract: each `return` is an entry of the table. Assumes nothing.
+use Rattle.language.specs.Meaning.{timeOf, byteOf}
+use Rattle.meaning.proofs.Naming.{tells-as, with-argument, no-name}
+use Rattle.meaning.proofs.Dataless.{time-quiet, byte-quiet}
+use Rattle.meaning.proofs.Choosing.{time-named, data-named, byte-named, none-of-four}
+use borrow.Author.Needs.{needs}
+use Rattle.meaning.proofs.waits.of_four.Statement.{statement}
+use Rattle.meaning.proofs.waits.of_four.Tie as tie
+
+slice-aggregate-is-name : tie.Need-slice-aggregate-is-name
+slice-aggregate-is-name c = search needs
+
+is-name-requires : tie.Need-is-name-requires
+is-name-requires c κs = search needs
+
+argument-requires : tie.Need-argument-requires
+argument-requires c κs = search needs
+
+wait-time-requires : tie.Need-wait-time-requires
+wait-time-requires c κs = search needs
+
+returns : tie.Need-returns
+returns c = tells-as (time-named _ _ (c .before .before .before .is-name .ensures) (c .before .before .if1 .taken)) (with-argument timeOf _ time-quiet (c .wait-time .ensures) (c .before .argument .ensures))
+
+slice-aggregate-is-name-2 : tie.Need-slice-aggregate-is-name-2
+slice-aggregate-is-name-2 c = search needs
+
+is-name-requires-2 : tie.Need-is-name-requires-2
+is-name-requires-2 c κs = search needs
+
+wait-data-requires : tie.Need-wait-data-requires
+wait-data-requires c κs = search needs
+
+returns-2 : tie.Need-returns-2
+returns-2 c = tells-as (data-named _ _ (c .before .before .before .is-name2 .ensures) (c .before .before .if2 .taken)) (c .wait-data .ensures)
+
+slice-aggregate-is-name-3 : tie.Need-slice-aggregate-is-name-3
+slice-aggregate-is-name-3 c = search needs
+
+is-name-requires-3 : tie.Need-is-name-requires-3
+is-name-requires-3 c κs = search needs
+
+argument-requires-2 : tie.Need-argument-requires-2
+argument-requires-2 c κs = search needs
+
+wait-byte-requires : tie.Need-wait-byte-requires
+wait-byte-requires c κs = search needs
+
+returns-3 : tie.Need-returns-3
+returns-3 c = tells-as (byte-named _ _ (c .before .before .before .is-name3 .ensures) (c .before .before .if3 .taken)) (with-argument byteOf _ byte-quiet (c .wait-byte .ensures) (c .before .argument2 .ensures))
+
+returns-4 : tie.Need-returns-4
+returns-4 c = tells-as (none-of-four _ _ (c .before .before .before .before .before .before .before .is-name .ensures) (c .before .before .before .before .before .before .if1 .left) (c .before .before .before .before .is-name2 .ensures) (c .before .before .before .if2 .left) (c .before .is-name3 .ensures) (c .if3 .left)) (no-name _)
+
+pub of-four-spec : {M : Type 1} → statement M
+of-four-spec =
+    tie.close
+    (tie.spec
+    slice-aggregate-is-name
+    is-name-requires
+    argument-requires
+    wait-time-requires
+    returns
+    slice-aggregate-is-name-2
+    is-name-requires-2
+    wait-data-requires
+    returns-2
+    slice-aggregate-is-name-3
+    is-name-requires-3
+    argument-requires-2
+    wait-byte-requires
+    returns-3
+    returns-4)

@@ -1,0 +1,142 @@
+// The names that a line begins with, parted by their second byte, and those of f: lines by their length.
+ghost use Prim.Native.Nat.{_≤_};
+ghost use mathlib.Core.Path.{_≡_};
+ghost use lib.ListN.{length};
+ghost use Rattle.language.specs.Meaning.{lookup, names, named};
+ghost use Rattle.meaning.specs.Line.{shown};
+ghost use Rattle.meaning.specs.Tells.{Tells};
+ghost use Rattle.meaning.specs.Names.{begins, long};
+use super::Data;
+use super::Line;
+use super::settings::encode;
+use super::settings::ex;
+use super::settings::lfext;
+use super::settings::rts;
+use super::settings::stopbits;
+use super::texts::log;
+use super::texts::omit;
+use super::times::loop_count;
+use super::waits::wait;
+use super::words::argument;
+use super::words::bare_name;
+use super::words::is_name;
+use language::Cell;
+use language::Fault;
+use reader::words::word_end;
+
+// LOOP and LOG.
+fn loop_or_log<'a>(word: &'a [u8], rest: &'a [u8], bytes: &mut Data) -> Line
+    requires { ⌜ length (now rest) ≤ 127 ⌝ }
+    ensures { λ r. ⌜ Tells (lookup (begins 76) (now (word .entry)) (now (rest .entry))) r (now (bytes .entry)) (now (bytes .exit)) ⌝ }
+{
+    if is_name(word, b"#LOOP") {
+        return loop_count(argument(rest));
+    }
+    if is_name(word, b"#LOG") {
+        return log(rest, bytes);
+    }
+    Line::Faulty(Fault::NoSuchName)
+}
+
+// RTS and RESUME.
+fn rts_or_resume<'a>(word: &'a [u8], rest: &'a [u8]) -> Line
+    ensures { λ r. ⌜ r ≡ shown (lookup (begins 82) (now (word .entry)) (now (rest .entry))) ⌝ }
+{
+    if is_name(word, b"#RTS") {
+        return rts(argument(rest));
+    }
+    bare_name(word, b"#RESUME", rest, Line::Says(Cell::Resume))
+}
+
+// PAUSE and PROCESS.
+fn pause_or_process<'a>(word: &'a [u8], rest: &'a [u8]) -> Line
+    ensures { λ r. ⌜ r ≡ shown (lookup (begins 80) (now (word .entry)) (now (rest .entry))) ⌝ }
+{
+    if word.len() == 6 {
+        return bare_name(word, b"#PAUSE", rest, Line::Says(Cell::Pause));
+    }
+    bare_name(word, b"#PROCESS", rest, Line::Process)
+}
+
+// WAIT.
+fn only_wait<'a>(word: &'a [u8], rest: &'a [u8], bytes: &mut Data) -> Line
+    requires { ⌜ length (now rest) ≤ 127 ⌝ }
+    ensures { λ r. ⌜ Tells (lookup (begins 87) (now (word .entry)) (now (rest .entry))) r (now (bytes .entry)) (now (bytes .exit)) ⌝ }
+{
+    if is_name(word, b"#WAIT") {
+        return wait(rest, bytes);
+    }
+    Line::Faulty(Fault::NoSuchName)
+}
+
+// EX1 to EX4.
+fn only_ex<'a>(word: &'a [u8], rest: &'a [u8]) -> Line
+    ensures { λ r. ⌜ r ≡ shown (lookup (long 6) (now (word .entry)) (now (rest .entry))) ⌝ }
+{
+    if is_name(word, b"#f:EX1") {
+        return ex(argument(rest));
+    }
+    if is_name(word, b"#f:EX2") {
+        return ex(argument(rest));
+    }
+    if is_name(word, b"#f:EX3") {
+        return ex(argument(rest));
+    }
+    if is_name(word, b"#f:EX4") {
+        return ex(argument(rest));
+    }
+    Line::Faulty(Fault::NoSuchName)
+}
+
+// The f: lines.
+fn setting<'a>(word: &'a [u8], rest: &'a [u8], bytes: &mut Data) -> Line
+    requires { ⌜ length (now rest) ≤ 127 ⌝ }
+    ensures { λ r. ⌜ Tells (lookup (begins 102) (now (word .entry)) (now (rest .entry))) r (now (bytes .entry)) (now (bytes .exit)) ⌝ }
+{
+    if word.len() == 6 {
+        return only_ex(word, rest);
+    }
+    if is_name(word, b"#f:OMIT") {
+        return omit(rest, bytes);
+    }
+    if is_name(word, b"#f:LFEXT") {
+        return lfext(argument(rest));
+    }
+    if is_name(word, b"#f:ENCODE") {
+        return encode(argument(rest));
+    }
+    if is_name(word, b"#f:STOPBITS") {
+        return stopbits(argument(rest));
+    }
+    Line::Faulty(Fault::NoSuchName)
+}
+
+// The line of a name, parted by its second byte.
+fn by_name<'a>(word: &'a [u8], rest: &'a [u8], bytes: &mut Data) -> Line
+    requires { ⌜ length (now rest) ≤ 127 ⌝ }
+    ensures { λ r. ⌜ Tells (lookup names (now (word .entry)) (now (rest .entry))) r (now (bytes .entry)) (now (bytes .exit)) ⌝ }
+{
+    if word.len() < 2 {
+        return Line::Faulty(Fault::NoSuchName);
+    }
+    match word[1] {
+        b'L' => loop_or_log(word, rest, bytes),
+        b'E' => bare_name(word, b"#END", rest, Line::Says(Cell::End)),
+        b'W' => only_wait(word, rest, bytes),
+        b'R' => rts_or_resume(word, rest),
+        b'F' => bare_name(word, b"#FCHANGE", rest, Line::Says(Cell::Fchange)),
+        b'P' => pause_or_process(word, rest),
+        b'N' => bare_name(word, b"#NOP", rest, Line::Says(Cell::Nop)),
+        b'f' => setting(word, rest, bytes),
+        _ => Line::Faulty(Fault::NoSuchName),
+    }
+}
+
+// A line that begins with `#`: its first word, and what follows it.
+pub fn named(line: &[u8], bytes: &mut Data) -> Line
+    requires { ⌜ length (now line) ≤ 127 ⌝ }
+    ensures { λ r. ⌜ Tells (named (now (line .entry))) r (now (bytes .entry)) (now (bytes .exit)) ⌝ }
+{
+    let end = word_end(line, 0);
+    by_name(&line[..end], &line[end..], bytes)
+}

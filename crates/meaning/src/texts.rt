@@ -1,0 +1,169 @@
+// Lines with data: text as it stands, hex data, and LOG's text with its signs.
+ghost use Prim.Native.Nat.{_≤_};
+ghost use mathlib.Core.Path.{_≡_};
+ghost use mathlib.Core.Bool.{false};
+ghost use lib.ListN.{length};
+ghost use lib.Seq.{sets};
+ghost use Rattle.reader.specs.Words.{skip};
+ghost use Rattle.reader.specs.Hex.{hexAt};
+ghost use Rattle.language.specs.Script.{send, says};
+ghost use Rattle.language.specs.Meaning.{sendSays, markedData, dataSays, omitSays, isSign, signs, logOf};
+ghost use Rattle.meaning.specs.Tells.{Tells, Finds};
+use super::Data;
+use super::Found;
+use super::Line;
+use language::Cell;
+use language::Fault;
+use language::Span;
+use reader::HexRead;
+use reader::hex::hex_into;
+use reader::words::after_blanks;
+use reader::writers::put_bytes;
+
+// Puts text into the lent bytes as it stands.
+fn put_text(text: &[u8], bytes: &mut Data) -> u16
+    requires { ⌜ length (now text) ≤ 127 ⌝ }
+    ensures { λ r. ⌜ (r ≡ length (now (text .entry))) × (now (bytes .exit) ≡ sets (now (bytes .entry)) 0 (now (text .entry))) ⌝ }
+{
+    put_bytes(bytes, 0, text);
+    text.len() as u16
+}
+
+// Reads hex data into the lent bytes, all of it or none.
+fn read_hex(text: &[u8], bytes: &mut Data) -> Found
+    requires { ⌜ length (now text) ≤ 127 ⌝ }
+    ensures { λ r. ⌜ Finds (hexAt (now (text .entry)) 0) r (now (bytes .entry)) (now (bytes .exit)) ⌝ }
+{
+    match hex_into(text, 0, bytes, 0) {
+        HexRead::Bytes(n) => Found::Bytes(n as u16),
+        HexRead::Wrong(at) => Found::Bad(at),
+        HexRead::Full => Found::Bad(0),
+    }
+}
+
+// Reads data behind its mark: `/` and text, or `:` and hex data.
+fn read_marked(rest: &[u8], bytes: &mut Data) -> Found
+    requires { ⌜ length (now rest) ≤ 127 ⌝ }
+    ensures { λ r. ⌜ Finds (markedData (now (rest .entry))) r (now (bytes .entry)) (now (bytes .exit)) ⌝ }
+{
+    if rest.len() == 0 {
+        return Found::Bad(0);
+    }
+    let mark = rest[0];
+    if mark == b'/' {
+        return Found::Bytes(put_text(&rest[1..], bytes));
+    }
+    if mark == b':' {
+        return read_hex(&rest[1..], bytes);
+    }
+    Found::Bad(0)
+}
+
+// A line that sends text.
+pub fn send_text(text: &[u8], bytes: &mut Data) -> Line
+    requires { ⌜ length (now text) ≤ 127 ⌝ }
+    ensures { λ r. ⌜ Tells (says (send (now (text .entry)))) r (now (bytes .entry)) (now (bytes .exit)) ⌝ }
+{
+    let count = put_text(text, bytes);
+    Line::Says(Cell::Send(Span { from: 0, count }))
+}
+
+// A line that sends hex bytes.
+pub fn send_hex(text: &[u8], bytes: &mut Data) -> Line
+    requires { ⌜ length (now text) ≤ 127 ⌝ }
+    ensures { λ r. ⌜ Tells (sendSays (hexAt (now (text .entry)) 0)) r (now (bytes .entry)) (now (bytes .exit)) ⌝ }
+{
+    match read_hex(text, bytes) {
+        Found::Bytes(count) => Line::Says(Cell::Send(Span { from: 0, count })),
+        Found::Bad(_) => Line::Faulty(Fault::BadRest),
+    }
+}
+
+// WAIT DATA: marked data, not empty.
+pub fn wait_data(rest: &[u8], bytes: &mut Data) -> Line
+    requires { ⌜ length (now rest) ≤ 127 ⌝ }
+    ensures { λ r. ⌜ Tells (dataSays (markedData (skip (now (rest .entry))))) r (now (bytes .entry)) (now (bytes .exit)) ⌝ }
+{
+    let from = after_blanks(rest, 0);
+    match read_marked(&rest[from..], bytes) {
+        Found::Bytes(count) => {
+            if count == 0 {
+                return Line::Faulty(Fault::BadRest);
+            }
+            Line::Says(Cell::WaitData(Span { from: 0, count }))
+        }
+        Found::Bad(_) => Line::Faulty(Fault::BadRest),
+    }
+}
+
+// OMIT: marked data.
+pub fn omit(rest: &[u8], bytes: &mut Data) -> Line
+    requires { ⌜ length (now rest) ≤ 127 ⌝ }
+    ensures { λ r. ⌜ Tells (omitSays (markedData (skip (now (rest .entry))))) r (now (bytes .entry)) (now (bytes .exit)) ⌝ }
+{
+    let from = after_blanks(rest, 0);
+    match read_marked(&rest[from..], bytes) {
+        Found::Bytes(count) => Line::Omit(count as u8),
+        Found::Bad(_) => Line::Faulty(Fault::BadRest),
+    }
+}
+
+// Whether a byte may follow `@`.
+fn is_sign(b: u8) -> bool
+    ensures { λ r. ⌜ r ≡ isSign b ⌝ }
+{
+    match b {
+        b'c' => true,
+        b'Y' => true,
+        b'M' => true,
+        b'D' => true,
+        b'h' => true,
+        b'm' => true,
+        b's' => true,
+        b'@' => true,
+        b'r' => true,
+        b'n' => true,
+        _ => false,
+    }
+}
+
+// Whether every `@` begins a sign.
+fn right_signs(text: &[u8]) -> bool
+    ensures { λ r. ⌜ r ≡ signs (now (text .entry)) false ⌝ }
+{
+    let mut i = 0usize;
+    while i < text.len() {
+        let next = i + 1;
+        if text[i] == b'@' {
+            if text.len() <= next {
+                return false;
+            }
+            if !is_sign(text[next]) {
+                return false;
+            }
+            i = next + 1;
+        } else {
+            i = next;
+        }
+    }
+    true
+}
+
+// LOG: one space and text, or nothing.
+pub fn log(rest: &[u8], bytes: &mut Data) -> Line
+    requires { ⌜ length (now rest) ≤ 127 ⌝ }
+    ensures { λ r. ⌜ Tells (logOf (now (rest .entry))) r (now (bytes .entry)) (now (bytes .exit)) ⌝ }
+{
+    if rest.len() == 0 {
+        return Line::Says(Cell::Log(Span { from: 0, count: 0 }));
+    }
+    if rest[0] != b' ' {
+        return Line::Faulty(Fault::BadRest);
+    }
+    let text = &rest[1..];
+    if right_signs(text) {
+        let count = put_text(text, bytes);
+        return Line::Says(Cell::Log(Span { from: 0, count }));
+    }
+    Line::Faulty(Fault::BadRest)
+}
