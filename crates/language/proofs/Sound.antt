@@ -37,6 +37,7 @@ pub record Sound (spare : ℕ) (st : Draft) : Type 0 where
   pub used : st .used ≡ dataIn (st .body)
   pub bytes : st .used ≤ dataLimit
   pub nested : (rest : List Item) → nests (st .body ++ rest) 0 ≡ nests rest (length (st .loops))
+  pub deep : length (st .loops) ≤ loopLimit
   pub count : st .count ≡ 1 + nextsIn (st .body)
   pub few : st .count ≤ processLimit
   pub lines : length (settingLines (st .settings)) + needs (st .begun) (st .body) + spare ≤ st .counted
@@ -87,6 +88,13 @@ needs-listed begun [] = omega arith
 needs-listed begun (does s ∷ is) = omega (arith, items-length (does s ∷ is))
 needs-listed begun (next ∷ is) = omega (arith, items-length (next ∷ is))
 
+-- a statement that may stand leaves at most eight loops open
+deeper : (sh : Shape) (depth : ℕ) → mayNest sh depth ≡ true → depth ≤ loopLimit → depthAfter sh depth ≤ loopLimit
+unfolding mayNest depthAfter
+deeper stays depth m h = h
+deeper opens depth m h = omega (arith, ltb-true depth loopLimit m)
+deeper closes depth m h = omega arith
+
 -- ---- what a line leaves
 
 abbrev pub Holds : Taken → Type 0
@@ -95,18 +103,18 @@ Holds (stop n row) = Unit {0}
 
 relaxed : (st : Draft) → Sound 1 st → Holds (going st)
 relaxed st i =
-    record { settings = i .settings; rights = i .rights; used = i .used; bytes = i .bytes; nested = i .nested; count = i .count; few = i .few; lines = omega (arith, i .lines); counted = i .counted }
+    record { settings = i .settings; rights = i .rights; used = i .used; bytes = i .bytes; nested = i .nested; deep = i .deep; count = i .count; few = i .few; lines = omega (arith, i .lines); counted = i .counted }
 
 counted-on : (st : Draft) → Sound 0 st → st .counted < linesLimit → Sound 1 (countLine st)
 unfolding countLine
 counted-on st i h =
-    record { settings = i .settings; rights = i .rights; used = i .used; bytes = i .bytes; nested = i .nested; count = i .count; few = i .few; lines = omega (arith, i .lines); counted = omega arith }
+    record { settings = i .settings; rights = i .rights; used = i .used; bytes = i .bytes; nested = i .nested; deep = i .deep; count = i .count; few = i .few; lines = omega (arith, i .lines); counted = omega arith }
 
 module _ (row : ℕ) (st : Draft) (i : Sound 1 st) where
   settings-on : (s : Settings) → RightSettings s → length (settingLines s) ≤ length (settingLines (st .settings)) + 1 → Holds (going (withSettings st s))
   unfolding withSettings
   settings-on s r h =
-      record { settings = r; rights = i .rights; used = i .used; bytes = i .bytes; nested = i .nested; count = i .count; few = i .few; lines = omega (arith, i .lines); counted = i .counted }
+      record { settings = r; rights = i .rights; used = i .used; bytes = i .bytes; nested = i .nested; deep = i .deep; count = i .count; few = i .few; lines = omega (arith, i .lines); counted = i .counted }
 
   item-on : (s : Statement) (ls : List ℕ) → right s ≡ true → st .used + length (dataOf s) ≤ dataLimit
       → mayNest (shape s) (length (st .loops)) ≡ true → length ls ≡ depthAfter (shape s) (length (st .loops)) → Holds (going (withItem st ls s))
@@ -118,6 +126,7 @@ module _ (row : ℕ) (st : Draft) (i : Sound 1 st) where
         used = omega (arith, i .used, data-snoc (st .body) (does s));
         bytes = u;
         nested = λ rest. ap (λ (x : List Item). nests x 0) (append-snoc (st .body) (does s) rest) ∙ i .nested (does s ∷ rest) ∙ inside rest;
+        deep = rw d (deeper (shape s) (length (st .loops)) m (i .deep));
         count = omega (arith, i .count, nexts-snoc (st .body) (does s));
         few = i .few;
         lines = omega (arith, i .lines, needs-does (st .begun) (st .body) s);
@@ -136,6 +145,7 @@ module _ (row : ℕ) (st : Draft) (i : Sound 1 st) where
         used = omega (arith, i .used, data-snoc (st .body) next);
         bytes = i .bytes;
         nested = λ rest. ap (λ (x : List Item). nests x 0) (append-snoc (st .body) next rest) ∙ i .nested (next ∷ rest) ∙ inside rest;
+        deep = omega arith;
         count = omega (arith, i .count, nexts-snoc (st .body) next);
         few = omega arith;
         lines = omega (arith, subst (λ (t : Bool). length (settingLines (st .settings)) + needs t (st .body) + 1 ≤ st .counted) b (i .lines), needs-next (st .body));
@@ -154,6 +164,7 @@ module _ (row : ℕ) (st : Draft) (i : Sound 1 st) where
         used = i .used;
         bytes = i .bytes;
         nested = λ rest. i .nested rest ∙ ap (λ (ls : List ℕ). nests rest (length ls)) l;
+        deep = omega arith;
         count = i .count;
         few = i .few;
         lines = omega (arith, subst (λ (t : Bool). length (settingLines (st .settings)) + needs t (st .body) + 1 ≤ st .counted) b (i .lines), needs-first (st .body));
@@ -288,6 +299,7 @@ start-sound =
       used = refl;
       bytes = omega arith;
       nested = λ rest. refl;
+      deep = omega arith;
       count = refl;
       few = omega arith;
       lines = omega arith;
