@@ -6,3 +6,7 @@ pub mod Writing
 pub mod Beginning
 pub mod Setting
 pub mod Stepping
+pub mod Texts
+pub mod Lining
+pub mod Ending
+pub mod Folding

@@ -1,11 +1,13 @@
--- Zeros behind a list: what is written behind its end, or in the place of its last element. Assumes nothing.
+-- Zeros behind a list: what is written behind its end, or in the place of its last element; and what was put in front of one. Assumes
+-- nothing.
 use Prim.Native.Nat.{ℕ, zero, suc, _+_, _-_, _≤_, _<_}
 use mathlib.Core.Path.{_≡_, refl, sym, ap, _∙_}
 use mathlib.Core.List.{List, [], _∷_, _++_, append-assoc}
 use native.Mathlib.Omega.{arith}
-use lib.ListN.{length, drop, set, replicate, length-append, length-replicate}
-use lib.Seq.{sets, sets-eq, take-at, drop-append-add, set-at, append-snoc}
+use lib.ListN.{length, take, drop, set, replicate, length-append, length-replicate}
+use lib.Seq.{sets, sets-eq, length-sets, take-at, drop-append-add, set-at, append-snoc}
 use Rattle.language.specs.Table.{padded}
+use Rattle.compiler.specs.Stands.{Fronts}
 
 pub padded-length : (n : ℕ) (a : List ℕ) → length a ≤ n → length (padded n a) ≡ n
 padded-length n a h = simp (length-append, length-replicate) (omega arith)
@@ -35,3 +37,9 @@ pub set-last : (n : ℕ) (a : List ℕ) (x y : ℕ) → set (padded n (a ++ x �
 set-last n a x y =
     let e : length (a ++ x ∷ []) ≡ length (a ++ y ∷ []) = simp length-append in
     rw e (ap (λ (l : List ℕ). set l (length a) y) (append-snoc a x _) ∙ set-at a x _ y (length a) refl ∙ sym (append-snoc a y _))
+
+-- data in front of the lent bytes are read from there
+pub front-of : (size : ℕ) (lent bs : List ℕ) → Fronts lent bs → size ≡ length bs → size ≤ length lent → take size lent ≡ bs
+front-of size lent bs f n h =
+    let l : length lent ≡ length (f .before) = ap length (f .put) ∙ length-sets (f .before) 0 bs in
+    rw (f .put, n, sets-eq bs (f .before) 0 (omega arith)) (take-at bs _ (length bs) refl)

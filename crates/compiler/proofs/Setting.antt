@@ -20,7 +20,7 @@ use Rattle.compiler.specs.declared.Work.{Work}
 use Rattle.compiler.specs.declared.Step.the-variants.{Stop}
 use Rattle.compiler.specs.declared.Taken as code
 use Rattle.compiler.specs.Stands.{scriptIn, Stands, Took, Takes, Fronts}
-use Rattle.compiler.proofs.Padding.{padded-length, put-behind}
+use Rattle.compiler.proofs.Padding.{padded-length, put-behind, front-of}
 use Rattle.compiler.proofs.Standing.{Goes, goes}
 
 -- the work with other heads
@@ -99,15 +99,15 @@ module _ {w : Work} (r : code.Taken) where
         let m = omits st bs n h in
         rw (lt-leb (length (st .settings .omit ++ bs)) omitLimit (omega arith)) e
 
-    pub omit-on : w .heads .omits + size ≤ omitLimit → Sets (omitted (w .heads .omits + size) (putInto (take size lent) (w .heads .omit) (w .heads .omits)) (w .heads)) w r
+    pub omit-on : size ≤ length lent → w .heads .omits + size ≤ omitLimit → Sets (omitted (w .heads .omits + size) (putInto (take size lent) (w .heads .omit) (w .heads .omits)) (w .heads)) w r
         → (bs : List ℕ) → size ≡ length bs → Fronts lent bs → Takes (λ st. takeOmit row st (st .settings) bs) w r
     unfolding takeOmit headsOf putInto
-    omit-on k g bs n f st cells pool h =
+    omit-on i k g bs n f st cells pool h =
         let m = omits st bs n h in
         let o : List ℕ = st .settings .omit in
         let l = length-append o bs in
         let room : length o + length bs ≤ length (padded omitLimit o) = rw (padded-length omitLimit o (omega arith)) (omega arith) in
-        let held : take size lent ≡ bs = rw n (f .front) in
+        let held : take size lent ≡ bs = front-of size lent bs f n i in
         let put : putInto (take size lent) (w .heads .omit) (w .heads .omits) ≡ padded omitLimit (o ++ bs) =
         rw (held, h .heads, le-leb _ _ room) (put-behind omitLimit o bs (omega arith))
         in

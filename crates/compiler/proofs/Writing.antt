@@ -23,7 +23,7 @@ use Rattle.compiler.specs.declared.Step.the-variants.{Going, Stop}
 use Rattle.compiler.specs.declared.Taken as code
 use Rattle.compiler.specs.Cells.{asksOf, countIn, shapeIn, placedAt}
 use Rattle.compiler.specs.Stands.{Stands, Took, withLoops, nestedIn, Nests, Within, Fits, Fronts, Writes}
-use Rattle.compiler.proofs.Padding.{padded-length, put-behind, set-behind, set-last}
+use Rattle.compiler.proofs.Padding.{padded-length, put-behind, set-behind, set-last, front-of}
 use Rattle.compiler.proofs.Bodies.{pool-does, words-does, Ends, ends-does}
 use Rattle.compiler.proofs.Standing.{Goes, goes, headsWith, heads-with}
 
@@ -98,7 +98,7 @@ told at nop = record { shaped = refl; counts = refl; placed = refl }
 
 -- ---- a statement line
 
-never : (x : Step) {f : Fault} {n : ℕ} → x ≡ Going → x ≡ Stop f n → ⊥
+pub never : (x : Step) {f : Fault} {n : ℕ} → x ≡ Going → x ≡ Stop f n → ⊥
 never x p q = let z : _≡_ {A = ℕ} 0 1 = cc in omega arith
 
 -- where the loops do not nest, the fault stands; where they do, the statement is written with the loops that are then nested
@@ -155,11 +155,11 @@ module _ (row : ℕ) (cell : Cell) (asked : Asks) (lent : List ℕ) (w : Work) (
 
     pub statement-on : (r : code.Taken) {word : ℕ} {w′ : Work} (cells′ pool′ : List ℕ) → nested .step ≡ Going → word ≡ coded (placedAt (w .heads .used) cell asked)
         → ((st : Draft) (s : Statement) → word ≡ coded (cellFor (st .used) s) → take size lent ≡ dataOf s → Stands st (nested .work) cells pool → Stands (withItem st (st .loops) s) w′ cells′ pool′)
-        → Goes r w′ → Writes row lent w cells pool r cells′ pool′ cell
-    statement-on r cells′ pool′ e x k g s is f st h =
+        → Goes r w′ → size ≤ length lent → Writes row lent w cells pool r cells′ pool′ cell
+    statement-on r cells′ pool′ e x k g m s is f st h =
         let n = known st s is h in
         fitting st s r cells′ pool′ n (nested-on row st s _ nested r cells pool cells′ pool′ e
-        (λ st₁ u h₁. goes g (k st₁ s (x ∙ rw (n .placed, u)) (rw (n .sized) (f .front)) h₁))
+        (λ st₁ u h₁. goes g (k st₁ s (x ∙ rw (n .placed, u)) (front-of size lent (dataOf s) f (n .sized) m) h₁))
         (rw (n .shaped) at (nests .takes st cells pool h)))
 
 -- room for the statement's word and its data, once the loops nest

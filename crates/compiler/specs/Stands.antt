@@ -2,10 +2,13 @@
 -- definitions.
 use Prim.Native.Nat.{ℕ, _+_, _≤_, _<_}
 use mathlib.Core.Path.{_≡_}
+use mathlib.Core.Bool.{Bool, true, false}
 use mathlib.Core.List.{List, [], _∷_, _++_}
-use lib.ListN.{length, take}
+use lib.ListN.{length, take, replicate}
+use lib.Seq.{sets}
+use Rattle.reader.specs.Ascii.{ascii}
 use Rattle.language.specs.declared.Cell.{Cell}
-use Rattle.language.specs.Limits.{linesLimit, dataLimit, loopLimit, processLimit}
+use Rattle.language.specs.Limits.{linesLimit, dataLimit, omitLimit, loopLimit, processLimit}
 use Rattle.language.specs.Script.{Statement, setEncode, setStopbits, setLfext, Script, Shape, dataOf}
 use Rattle.language.specs.Draft as draft
 use Rattle.language.specs.Draft.{Draft, Nested, now, broken, nest, Taken, going, stop, takeStatement, takeProcess, takeOmit}
@@ -88,9 +91,10 @@ pub record Fits (w : Work) (bs : List ℕ) : Type 0 where
 
 -- ---- a step by what the line says
 
--- the data stand at the front of the lent bytes
+-- the data were put at the front of the lent bytes
 pub record Fronts (lent bs : List ℕ) : Type 0 where
-  pub front : take (length bs) lent ≡ bs
+  pub before : List ℕ
+  pub put : lent ≡ sets before 0 bs
 
 -- how many bytes of data a line has
 abbrev pub bytesIn : Line → ℕ
@@ -124,3 +128,39 @@ module _ (row : ℕ) (lent : List ℕ) (w : Work) (cells pool : List ℕ) (r : c
   Steps (Omit n) = (bs : List ℕ) → n ≡ length bs → Fronts lent bs → Into (λ st. takeOmit row st (st .settings) bs)
   Steps (Lfext e) = (l : List ℕ) → length l ≤ 3 → e ≡ lettersFrom l → Into (λ st. draft.take row st (setLfext l))
   Steps (Faulty f) = r .step ≡ Stop f row
+
+-- "At most 512 lines besides comments"
+abbrev pub commentLine : Line → Bool
+commentLine Comment = true
+commentLine Blank = false
+commentLine Process = false
+commentLine Ex = false
+commentLine (Says c) = false
+commentLine (Encode b) = false
+commentLine (Stopbits two) = false
+commentLine (Omit n) = false
+commentLine (Lfext e) = false
+commentLine (Faulty f) = false
+
+-- the work before the first line
+abbrev pub noLines : Work
+noLines =
+    record {
+      counted = 0;
+      cells = 0;
+      opened = 0;
+      loops = replicate loopLimit 0;
+      begun = false;
+      heads =
+          record {
+            processes = 1;
+            ends = replicate processLimit 0;
+            used = 0;
+            encodes = false;
+            encode = 0;
+            «two_stop_bits» = false;
+            omits = 0;
+            omit = replicate omitLimit 0;
+            extension = ascii "LOG";
+          };
+    }

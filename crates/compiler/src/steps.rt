@@ -34,7 +34,7 @@ use meaning::Line;
 use reader::writers::put_bytes;
 
 // The lines go on.
-fn going(work: Work) -> Taken
+pub fn going(work: Work) -> Taken
     ensures { λ r. ⌜ (r .step ≡ Step.Going) × (r .work ≡ work) ⌝ }
 {
     let step = Step::Going;
@@ -42,7 +42,7 @@ fn going(work: Work) -> Taken
 }
 
 // A fault ends them.
-fn stop(fault: Fault, row: u32, work: Work) -> Taken
+pub fn stop(fault: Fault, row: u32, work: Work) -> Taken
     ensures { λ r. ⌜ (r .step ≡ Step.Stop fault row) × (r .work ≡ work) ⌝ }
 {
     let step = Step::Stop(fault, row);

@@ -18,7 +18,7 @@ use Rattle.language.specs.Limits.{lineLimit, linesLimit, dataLimit, omit
 use Rattle.language.specs.Script.{Statement, Meaning, comment, blank, process, setEx, says, setEncode, setStopbits, setOmit, setLfext, fault, Encode, byte, Settings, default, Item, does, next, Shape, opens, closes, stays, shape, dataOf}
 use Rattle.language.specs.Meaning.{meaning, isCapital, extension}
 use Rattle.language.specs.Listing.{bodyLines, when, encodeLines, settingLines}
-use Rattle.language.specs.Right.{isByte, inLine, right, meaningRight, encodeRight, allRight, dataIn, nextsIn, mayNest, depthAfter, nests}
+use Rattle.language.specs.Right.{isByte, inLine, dataRight, right, meaningRight, encodeRight, allRight, dataIn, nextsIn, mayNest, depthAfter, nests}
 use Rattle.language.specs.Draft.{Draft, start, Taken, going, stop, countLine, withSettings, withItem, now, broken, nest, takeNested, takeStatement, withNext, withFirst, beginning, takeProcess, takeOmit, take, takeCounted, isComment, takeLine}
 use Rattle.language.proofs.Meanings.{meaning-right}
 use Rattle.language.proofs.Folding.{items-length}
@@ -243,7 +243,7 @@ unfolding lfextNeeds
 lfext-one x = when-one (not (same x (ascii "LOG"))) (ascii "#f:LFEXT " ++ x)
 
 take-on : (row : ℕ) (st : Draft) (m : Meaning) → Sound 1 st → meaningRight m ≡ true → Holds (take row st m)
-unfolding take meaningRight takeOmit encodeRight
+unfolding take meaningRight takeOmit encodeRight dataRight
 take-on row st comment i h = relaxed st i
 take-on row st blank i h = relaxed st i
 take-on row st process i h = process-on row st i
@@ -268,7 +268,7 @@ take-on row st (setOmit bs) i h =
     by-cases Holds (leb (length (x .omit ++ bs)) omitLimit) (going (withSettings st y)) (stop TooManyOmits row)
     (λ e.
     settings-on row st i y
-    (record { encode = i .settings .encode; omit = all-append isByte (x .omit) bs (i .settings .omit) h; omitted = leb-true (length (x .omit ++ bs)) omitLimit e; lfext = i .settings .lfext })
+    (record { encode = i .settings .encode; omit = all-append isByte (x .omit) bs (i .settings .omit) (both-left (all isByte bs) _ h); omitted = leb-true (length (x .omit ++ bs)) omitLimit e; lfext = i .settings .lfext })
     (omega (arith, settings-length y, settings-length x, omit-one (x .omit ++ bs))))
     (λ e. tt)
 take-on row st (setLfext e) i h =

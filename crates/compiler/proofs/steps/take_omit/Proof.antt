@@ -1,4 +1,5 @@
 -- `take_omit` meets its contract: each way on is a law of `Setting`. Assumes nothing.
+use Prim.Native.Nat.{_≤_}
 use mathlib.Core.Path.{_≡_, sym}
 use native.Mathlib.Omega.{arith}
 use borrow.Author.Needs.{needs}
@@ -24,8 +25,15 @@ returns c = omit-stop _ _ _ (c .before .if1 .taken) (c .stop .ensures .0)
 slice-aggregate-put-bytes : tie.Need-slice-aggregate-put-bytes
 slice-aggregate-put-bytes c = search needs
 
+-- the data have room in the lent bytes
+few : (c : tie.After-put-bytes-arg)
+    → c .before .before .before .before .before .before .before .args .size ≤ length (now (c .before .before .before .before .before .before .before .args .lent))
+few c =
+    let l : length (now (c .before .before .before .before .before .before .before .args .lent)) ≡ 128 = search needs in
+    omega (arith, c .before .before .before .before .before .before .before .pre)
+
 slice-aggregate-put-bytes-2 : tie.Need-slice-aggregate-put-bytes-2
-slice-aggregate-put-bytes-2 c = let l : length (now (c .before .before .before .before .before .before .before .args .lent)) ≡ 128 = search needs in sym (length-take-le _ _ (omega (arith, c .before .before .before .before .before .before .before .pre)))
+slice-aggregate-put-bytes-2 c = sym (length-take-le _ _ (few c))
 
 put-bytes-requires : tie.Need-put-bytes-requires
 put-bytes-requires c κs = search needs
@@ -37,7 +45,7 @@ set-requires : tie.Need-set-requires
 set-requires c κs = search needs
 
 returns-2 : tie.Need-returns-2
-returns-2 c = omit-on _ _ _ (c .before .before .before .before .before .before .before .if1 .left) (rw (c .before .before .put-bytes .ensures .1) at (c .set .ensures))
+returns-2 c = omit-on _ _ _ (few (c .before .before .before)) (c .before .before .before .before .before .before .before .if1 .left) (rw (c .before .before .put-bytes .ensures .1) at (c .set .ensures))
 
 pub take-omit-spec : {M : Type 1} → statement M
 take-omit-spec =

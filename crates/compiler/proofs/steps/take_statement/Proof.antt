@@ -53,20 +53,24 @@ code-requires : tie.Need-code-requires
 code-requires c κs = search needs
 
 -- as many bytes are taken from the lent ones
-held : (c : tie.After-count) → length (now (c .before .before .before .args .lent)) ≡ 128
-    → length (take (c .count .result) (now (c .before .before .before .args .lent))) ≡ c .count .result
-held c l = length-take-le (c .count .result) (now (c .before .before .before .args .lent)) (omega (arith, few c))
+lent-long : (c : tie.After-write-arg) → length (now (c .before .before .before .before .before .before .before .before .before .before .before .args .lent)) ≡ 128
+lent-long c = search needs
+
+held : (c : tie.After-write-arg) → length (take (c .before .before .before .before .before .before .before .before .count .result) (now (c .before .before .before .before .before .before .before .before .before .before .before .args .lent))) ≡ c .before .before .before .before .before .before .before .before .count .result
+held c =
+    let k = c .before .before .before .before .before .before .before .before in
+    length-take-le (k .count .result) (now (k .before .before .before .args .lent)) (omega (arith, few k, lent-long c))
 
 slice-aggregate-write : tie.Need-slice-aggregate-write
-slice-aggregate-write c = sym (held (c .before .before .before .before .before .before .before .before) (search needs))
+slice-aggregate-write c = sym (held c)
 
 write-requires : tie.Need-write-requires
 write-requires c κs =
-    let n = c .before .before .before .before .before .before .before .before in
+    let a = c .before .before in
+    let n = a .before .before .before .before .before .before in
     let k = n .before .before in
-    let l : length (now (k .before .before .before .args .lent)) ≡ 128 = search needs in
     room-on (take (k .count .result) (now (k .before .before .before .args .lent))) (n .nested .ensures) (k .before .before .before .pre .0)
-    (rw (held k l) (n .before .if1 .left))
+    (rw (held a) (n .before .if1 .left))
 
 going-requires : tie.Need-going-requires
 going-requires c κs = search needs
@@ -84,7 +88,7 @@ returns-3 c =
     let k = n .before .before in
     statement-on _ _ _ _ _ _ _ (k .before .before .asks .ensures) (k .count .ensures) _ (n .before .if1 .left) (n .nested .ensures) _ _ _
     (p .before .before .enum-told2 .given .1) (c .before .before .before .before .before .code .ensures ∙ ap coded (p .placed .ensures))
-    (c .before .write .ensures) (c .going .ensures)
+    (c .before .write .ensures) (c .going .ensures) (omega (arith, few k, lent-long (c .before .before .before .before)))
 
 pub take-statement-spec : {M : Type 1} → statement M
 take-statement-spec =
