@@ -1,6 +1,6 @@
 -- THE LINES OF A JOINED LISTING ARE THE LISTED LINES, if none of them holds an LF. A line may end in CR: only the one that the
 -- listing adds is dropped. And the laws of cutting a text into lines: for a loop over it, and for portions. Assumes nothing.
-use Prim.Native.Nat.{ℕ, _<_}
+use Prim.Native.Nat.{ℕ, _+_, _≤_, _<_}
 use mathlib.Core.Path.{_≡_, refl, sym, ap, _∙_}
 use mathlib.Core.Bool.{Bool, true, false, cond, not}
 use mathlib.Core.List.{List, [], _∷_, _++_}
@@ -46,6 +46,49 @@ line-ended l s h = rw (raw-ended l s h)
 pub line-last : (b : ℕ) (l : List ℕ) → NoLf (b ∷ l) → linesOf (b ∷ l) ≡ dropCr (b ∷ l) ∷ []
 unfolding linesOf eachLine
 line-last b l h = rw (raw-last b l h)
+
+-- bytes with no LF among them are the front of a line
+pub record Begun (l s : List ℕ) : Type 0 where
+  pub first : List ℕ
+  pub others : List (List ℕ)
+  pub lines : linesOf (l ++ s) ≡ dropCr first ∷ others
+  pub long : length l ≤ length first
+
+front-of : (b : ℕ) (ls : List (List ℕ)) → (f : List ℕ) × (o : List (List ℕ)) × (inFront b ls ≡ f ∷ o) × (1 ≤ length f)
+unfolding inFront
+front-of b [] = (b ∷ [], [], refl, omega arith)
+front-of b (l ∷ ls) = (b ∷ l, ls, refl, omega arith)
+
+raw-begun : (b : ℕ) (l s : List ℕ) → NoLf (b ∷ l)
+    → (f : List ℕ) × (o : List (List ℕ)) × (rawLines (b ∷ l ++ s) ≡ f ∷ o) × (length (b ∷ l) ≤ length f)
+unfolding rawLines inFront
+raw-begun b [] s h = let t = front-of b (rawLines s) in (t .0, t .1, rw (not-lf b [] h) (t .2), t .3)
+raw-begun b (c ∷ l) s h =
+    let t = raw-begun c l s (no-further b (c ∷ l) h) in
+    (b ∷ t .0, t .1, rw (not-lf b (c ∷ l) h) (ap (inFront b) (t .2)), omega (arith, t .3))
+
+pub line-begun : (b : ℕ) (l s : List ℕ) → NoLf (b ∷ l) → Begun (b ∷ l) s
+unfolding linesOf eachLine
+line-begun b l s h =
+    let t = raw-begun b l s h in
+    record { first = t .0; others = eachLine (t .1); lines = ap eachLine (t .2); long = t .3 }
+
+-- a CR at the end of a line is dropped, another byte is not
+cr-pushed : (t : Bool) (x : ℕ) (a b : List ℕ) → x ∷ cond t a b ≡ cond t (x ∷ a) (x ∷ b)
+cr-pushed true x a b = refl
+cr-pushed false x a b = refl
+
+pub cr-last : (l : List ℕ) (b : ℕ) → dropCr (l ++ b ∷ []) ≡ cond (eqb b 13) l (l ++ b ∷ [])
+unfolding dropCr
+cr-last [] b = refl
+cr-last (x ∷ []) b = cr-pushed (eqb b 13) x [] (b ∷ [])
+cr-last (x ∷ y ∷ l) b = ap (λ (z : List ℕ). x ∷ z) (cr-last (y ∷ l) b) ∙ cr-pushed (eqb b 13) x (y ∷ l) (y ∷ l ++ b ∷ [])
+
+pub cr-length : (l : List ℕ) → length l ≤ length (dropCr l) + 1
+unfolding dropCr
+cr-length [] = omega arith
+cr-length (b ∷ []) = by-cases (λ (l : List ℕ). 1 ≤ length l + 1) (eqb b 13) [] (b ∷ []) (λ e. omega arith) (λ e. omega arith)
+cr-length (b ∷ c ∷ l) = omega (arith, cr-length (c ∷ l))
 
 -- ---- a text that comes in portions: the lines that an LF ends do not depend on what follows it
 
@@ -124,7 +167,7 @@ raw-lines (b ∷ t) h =
     front b [] k e p = (both (inLine b) true (both (isByte b) (not (eqb b 10)) k (rw e)) refl, tt)
     front b (l ∷ ls) k e p = (both (inLine b) (all inLine l) (both (isByte b) (not (eqb b 10)) k (rw e)) (p .0), p .1)
 
-all-cr : (p : ℕ → Bool) (l : List ℕ) → all p l ≡ true → all p (dropCr l) ≡ true
+pub all-cr : (p : ℕ → Bool) (l : List ℕ) → all p l ≡ true → all p (dropCr l) ≡ true
 unfolding dropCr
 all-cr p [] h = refl
 all-cr p (b ∷ []) h = by-cases (λ (x : List ℕ). all p x ≡ true) (eqb b 13) [] (b ∷ []) (λ e. refl) (λ e. h)

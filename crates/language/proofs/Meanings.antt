@@ -19,7 +19,7 @@ use Rattle.reader.proofs.Tests.{both-left, both-right, by-cases}
 use Rattle.reader.proofs.Same.{same-is}
 use Rattle.language.specs.declared.Fault.{Fault}
 use Rattle.language.specs.declared.Fault.the-variants.{NoSuchName, BadRest}
-use Rattle.language.specs.Limits.{lineLimit, sendRoom, waitRoom, logRoom}
+use Rattle.language.specs.Limits.{lineLimit, sendRoom, waitRoom, logRoom, omitRoom}
 use Rattle.language.specs.Clock.{clockOf}
 use Rattle.language.specs.Script.{Statement, send, loop, end, waitByte, waitSignal, log, fchange, pause, resume, nop, Meaning, comment, blank, process, setEx, says, setEncode, setLfext, fault}
 use Rattle.language.specs.Meaning.{checked, bare, numberSays, number, loopOf, byteOf, timeIn, timeBy, timeOf, clockSays, markedData, dataSays, sendSays, omitSays, rtsOf, signs, logOf, encodeHex, encodeByte, encodeOf, stopbitsOf, raise, extension, lfextOf, Entry, lookup, signal, waits, waitOf, exIn, names, named, meaning}
@@ -125,10 +125,10 @@ data-ok (good []) h = refl
 data-ok (good (b ∷ bs)) h = h
 data-ok (bad at) h = refl
 
-omit-ok : (room : ℕ) (x : Said) → When (λ bs. dataRight room bs ≡ true) x → Ok (omitSays x)
-unfolding omitSays Ok meaningRight dataRight
-omit-ok room (good bs) h = both-left (all isByte bs) _ h
-omit-ok room (bad at) h = refl
+omit-ok : (x : Said) → When (λ bs. dataRight omitRoom bs ≡ true) x → Ok (omitSays x)
+unfolding omitSays Ok meaningRight
+omit-ok (good bs) h = h
+omit-ok (bad at) h = refl
 
 clock-ok : (x : Said) → When (λ vs. clockRight vs ≡ true) x → Ok (clockSays x)
 unfolding clockSays Ok meaningRight right
@@ -283,7 +283,7 @@ names-ok =
     (also (λ rest r. ex-ok (argument rest))
     (also (λ rest r. ex-ok (argument rest))
     (also (λ rest r. ex-ok (argument rest))
-    (also (λ rest r. omit-ok 118 (markedData (skip rest)) (named-data 7 rest r))
+    (also (λ rest r. omit-ok (markedData (skip rest)) (named-data 7 rest r))
     (also (λ rest r. lfext-ok (argument rest)) none)))))))))))))))))
 
 -- ---- every line

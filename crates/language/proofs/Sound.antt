@@ -18,7 +18,7 @@ use Rattle.language.specs.Limits.{lineLimit, linesLimit, dataLimit, omit
 use Rattle.language.specs.Script.{Statement, Meaning, comment, blank, process, setEx, says, setEncode, setStopbits, setOmit, setLfext, fault, Encode, byte, Settings, default, Item, does, next, Shape, opens, closes, stays, shape, dataOf}
 use Rattle.language.specs.Meaning.{meaning, isCapital, extension}
 use Rattle.language.specs.Listing.{bodyLines, when, encodeLines, settingLines}
-use Rattle.language.specs.Right.{isByte, inLine, right, meaningRight, encodeRight, allRight, dataIn, nextsIn, mayNest, depthAfter, nests}
+use Rattle.language.specs.Right.{isByte, inLine, dataRight, right, meaningRight, encodeRight, allRight, dataIn, nextsIn, mayNest, depthAfter, nests}
 use Rattle.language.specs.Draft.{Draft, start, Taken, going, stop, countLine, withSettings, withItem, now, broken, nest, takeNested, takeStatement, withNext, withFirst, beginning, takeProcess, takeOmit, take, takeCounted, isComment, takeLine}
 use Rattle.language.proofs.Meanings.{meaning-right}
 use Rattle.language.proofs.Folding.{items-length}
@@ -37,6 +37,7 @@ pub record Sound (spare : ℕ) (st : Draft) : Type 0 where
   pub used : st .used ≡ dataIn (st .body)
   pub bytes : st .used ≤ dataLimit
   pub nested : (rest : List Item) → nests (st .body ++ rest) 0 ≡ nests rest (length (st .loops))
+  pub deep : length (st .loops) ≤ loopLimit
   pub count : st .count ≡ 1 + nextsIn (st .body)
   pub few : st .count ≤ processLimit
   pub lines : length (settingLines (st .settings)) + needs (st .begun) (st .body) + spare ≤ st .counted
@@ -87,6 +88,13 @@ needs-listed begun [] = omega arith
 needs-listed begun (does s ∷ is) = omega (arith, items-length (does s ∷ is))
 needs-listed begun (next ∷ is) = omega (arith, items-length (next ∷ is))
 
+-- a statement that may stand leaves at most eight loops open
+deeper : (sh : Shape) (depth : ℕ) → mayNest sh depth ≡ true → depth ≤ loopLimit → depthAfter sh depth ≤ loopLimit
+unfolding mayNest depthAfter
+deeper stays depth m h = h
+deeper opens depth m h = omega (arith, ltb-true depth loopLimit m)
+deeper closes depth m h = omega arith
+
 -- ---- what a line leaves
 
 abbrev pub Holds : Taken → Type 0
@@ -95,18 +103,18 @@ Holds (stop n row) = Unit {0}
 
 relaxed : (st : Draft) → Sound 1 st → Holds (going st)
 relaxed st i =
-    record { settings = i .settings; rights = i .rights; used = i .used; bytes = i .bytes; nested = i .nested; count = i .count; few = i .few; lines = omega (arith, i .lines); counted = i .counted }
+    record { settings = i .settings; rights = i .rights; used = i .used; bytes = i .bytes; nested = i .nested; deep = i .deep; count = i .count; few = i .few; lines = omega (arith, i .lines); counted = i .counted }
 
 counted-on : (st : Draft) → Sound 0 st → st .counted < linesLimit → Sound 1 (countLine st)
 unfolding countLine
 counted-on st i h =
-    record { settings = i .settings; rights = i .rights; used = i .used; bytes = i .bytes; nested = i .nested; count = i .count; few = i .few; lines = omega (arith, i .lines); counted = omega arith }
+    record { settings = i .settings; rights = i .rights; used = i .used; bytes = i .bytes; nested = i .nested; deep = i .deep; count = i .count; few = i .few; lines = omega (arith, i .lines); counted = omega arith }
 
 module _ (row : ℕ) (st : Draft) (i : Sound 1 st) where
   settings-on : (s : Settings) → RightSettings s → length (settingLines s) ≤ length (settingLines (st .settings)) + 1 → Holds (going (withSettings st s))
   unfolding withSettings
   settings-on s r h =
-      record { settings = r; rights = i .rights; used = i .used; bytes = i .bytes; nested = i .nested; count = i .count; few = i .few; lines = omega (arith, i .lines); counted = i .counted }
+      record { settings = r; rights = i .rights; used = i .used; bytes = i .bytes; nested = i .nested; deep = i .deep; count = i .count; few = i .few; lines = omega (arith, i .lines); counted = i .counted }
 
   item-on : (s : Statement) (ls : List ℕ) → right s ≡ true → st .used + length (dataOf s) ≤ dataLimit
       → mayNest (shape s) (length (st .loops)) ≡ true → length ls ≡ depthAfter (shape s) (length (st .loops)) → Holds (going (withItem st ls s))
@@ -118,6 +126,7 @@ module _ (row : ℕ) (st : Draft) (i : Sound 1 st) where
         used = omega (arith, i .used, data-snoc (st .body) (does s));
         bytes = u;
         nested = λ rest. ap (λ (x : List Item). nests x 0) (append-snoc (st .body) (does s) rest) ∙ i .nested (does s ∷ rest) ∙ inside rest;
+        deep = rw d (deeper (shape s) (length (st .loops)) m (i .deep));
         count = omega (arith, i .count, nexts-snoc (st .body) (does s));
         few = i .few;
         lines = omega (arith, i .lines, needs-does (st .begun) (st .body) s);
@@ -136,6 +145,7 @@ module _ (row : ℕ) (st : Draft) (i : Sound 1 st) where
         used = omega (arith, i .used, data-snoc (st .body) next);
         bytes = i .bytes;
         nested = λ rest. ap (λ (x : List Item). nests x 0) (append-snoc (st .body) next rest) ∙ i .nested (next ∷ rest) ∙ inside rest;
+        deep = omega arith;
         count = omega (arith, i .count, nexts-snoc (st .body) next);
         few = omega arith;
         lines = omega (arith, subst (λ (t : Bool). length (settingLines (st .settings)) + needs t (st .body) + 1 ≤ st .counted) b (i .lines), needs-next (st .body));
@@ -154,6 +164,7 @@ module _ (row : ℕ) (st : Draft) (i : Sound 1 st) where
         used = i .used;
         bytes = i .bytes;
         nested = λ rest. i .nested rest ∙ ap (λ (ls : List ℕ). nests rest (length ls)) l;
+        deep = omega arith;
         count = i .count;
         few = i .few;
         lines = omega (arith, subst (λ (t : Bool). length (settingLines (st .settings)) + needs t (st .body) + 1 ≤ st .counted) b (i .lines), needs-first (st .body));
@@ -232,7 +243,7 @@ unfolding lfextNeeds
 lfext-one x = when-one (not (same x (ascii "LOG"))) (ascii "#f:LFEXT " ++ x)
 
 take-on : (row : ℕ) (st : Draft) (m : Meaning) → Sound 1 st → meaningRight m ≡ true → Holds (take row st m)
-unfolding take meaningRight takeOmit encodeRight
+unfolding take meaningRight takeOmit encodeRight dataRight
 take-on row st comment i h = relaxed st i
 take-on row st blank i h = relaxed st i
 take-on row st process i h = process-on row st i
@@ -257,7 +268,7 @@ take-on row st (setOmit bs) i h =
     by-cases Holds (leb (length (x .omit ++ bs)) omitLimit) (going (withSettings st y)) (stop TooManyOmits row)
     (λ e.
     settings-on row st i y
-    (record { encode = i .settings .encode; omit = all-append isByte (x .omit) bs (i .settings .omit) h; omitted = leb-true (length (x .omit ++ bs)) omitLimit e; lfext = i .settings .lfext })
+    (record { encode = i .settings .encode; omit = all-append isByte (x .omit) bs (i .settings .omit) (both-left (all isByte bs) _ h); omitted = leb-true (length (x .omit ++ bs)) omitLimit e; lfext = i .settings .lfext })
     (omega (arith, settings-length y, settings-length x, omit-one (x .omit ++ bs))))
     (λ e. tt)
 take-on row st (setLfext e) i h =
@@ -288,6 +299,7 @@ start-sound =
       used = refl;
       bytes = omega arith;
       nested = λ rest. refl;
+      deep = omega arith;
       count = refl;
       few = omega arith;
       lines = omega arith;

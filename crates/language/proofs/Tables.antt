@@ -59,7 +59,7 @@ fixed-right (d ∷ o ∷ m ∷ s ∷ more) h =
 -- ---- a cell
 
 -- data that a line has room for are few enough
-data-room : (room : ℕ) (bs : List ℕ) → dataRight room bs ≡ true → length bs ≤ room
+pub data-room : (room : ℕ) (bs : List ℕ) → dataRight room bs ≡ true → length bs ≤ room
 unfolding dataRight
 data-room room bs h = go (leb (length bs * 2) room) refl (both-right (all isByte bs) _ h)
   where
@@ -70,6 +70,24 @@ data-room room bs h = go (leb (length bs * 2) room) refl (both-right (all isByte
 span-right : (low high at n : ℕ) → low ≤ n → n ≤ high → at + n ≤ dataLimit → spanRight low high (span at n) ≡ true
 unfolding spanRight
 span-right low high at n a b c = simp (le-leb low n a, le-leb n high b, le-leb (at + n) dataLimit c)
+
+-- the data of a right statement are no more than a data line has room for
+pub data-few : (s : Statement) → right s ≡ true → length (dataOf s) ≤ sendRoom
+unfolding right dataOf
+data-few (send bs) h = data-room sendRoom bs h
+data-few (loop n) h = omega arith
+data-few end h = omega arith
+data-few (waitTime n) h = omega arith
+data-few (waitData bs) h = omega (arith, data-room waitRoom bs (both-right (not (same bs [])) _ h))
+data-few (waitByte n) h = omega arith
+data-few (waitClock vs) h = omega arith
+data-few (waitSignal n on) h = omega arith
+data-few (rts on) h = omega arith
+data-few (log text) h = omega (arith, leb-true (length text) logRoom (unfold logRight in both-left (leb (length text) logRoom) _ h))
+data-few fchange h = omega arith
+data-few pause h = omega arith
+data-few resume h = omega arith
+data-few nop h = omega arith
 
 some : (bs : List ℕ) → not (same bs []) ≡ true → 1 ≤ length bs
 unfolding same

@@ -29,7 +29,8 @@ loopLimit = 8
 abbrev pub processLimit : ℕ
 processLimit = 8
 
--- what a line of 127 has room for: behind the mark of a data line, behind `#WAIT DATA` and a mark, behind `#LOG` and the space
+-- what a line of 127 has room for: behind the mark of a data line, behind `#WAIT DATA` and a mark, behind `#LOG` and the space, behind
+-- `#f:OMIT` and a mark
 abbrev pub sendRoom : ℕ
 sendRoom = 126
 
@@ -40,3 +41,6 @@ waitRoom = 115
 -- 127 less `#LOG `
 abbrev pub logRoom : ℕ
 logRoom = 122
+
+abbrev pub omitRoom : ℕ
+omitRoom = 118

@@ -6,7 +6,7 @@ use lib.ListN.{length}
 use lib.Dec.{ltb, leb, eqb}
 use Rattle.figures.specs.Stretch.{limit}
 use Rattle.reader.specs.Bytes.{all, same}
-use Rattle.language.specs.Limits.{linesLimit, dataLimit, omitLimit, loopLimit, processLimit, sendRoom, waitRoom, logRoom}
+use Rattle.language.specs.Limits.{linesLimit, dataLimit, omitLimit, loopLimit, processLimit, sendRoom, waitRoom, logRoom, omitRoom}
 use Rattle.language.specs.Clock.{Range, within, secondOn, minuteOn, hourOn, dayOn}
 use Rattle.language.specs.Script.{Statement, send, loop, end, waitTime, waitData, waitByte, waitClock, waitSignal, rts, log, fchange, pause, resume, nop, Meaning, comment, blank, process, setEx, says, setEncode, setStopbits, setOmit, setLfext, fault, Encode, unset, byte, Settings, Item, does, next, Script, processes, Shape, opens, closes, stays, shape, dataOf}
 use Rattle.language.specs.Meaning.{signs, extension}
@@ -73,7 +73,7 @@ meaningRight setEx = true
 meaningRight (says s) = right s
 meaningRight (setEncode b) = isByte b
 meaningRight (setStopbits two) = true
-meaningRight (setOmit bs) = all isByte bs
+meaningRight (setOmit bs) = dataRight omitRoom bs
 meaningRight (setLfext e) = extension e
 meaningRight (fault n) = true
 

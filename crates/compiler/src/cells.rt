@@ -1,0 +1,58 @@
+// What the compiler asks of a statement's cell.
+ghost use mathlib.Core.Path.{_≡_};
+ghost use Rattle.compiler.specs.Cells.{asksOf, countIn, placedAt};
+use super::Asks;
+use language::Cell;
+use language::Span;
+
+// What a statement asks for, by its cell.
+pub(crate) fn asks(cell: Cell) -> Asks
+    ensures { λ r. ⌜ r ≡ asksOf cell ⌝ }
+{
+    match cell {
+        Cell::Nothing => Asks::Plain,
+        Cell::Send(s) => Asks::Sending(s.count),
+        Cell::Loop(_) => Asks::Opening,
+        Cell::End => Asks::Closing,
+        Cell::WaitTime(_) => Asks::Plain,
+        Cell::WaitData(s) => Asks::Awaiting(s.count),
+        Cell::WaitByte(_) => Asks::Plain,
+        Cell::WaitClock(_) => Asks::Plain,
+        Cell::WaitSignal(_) => Asks::Plain,
+        Cell::Rts(_) => Asks::Plain,
+        Cell::Log(s) => Asks::Logging(s.count),
+        Cell::Fchange => Asks::Plain,
+        Cell::Pause => Asks::Plain,
+        Cell::Resume => Asks::Plain,
+        Cell::Nop => Asks::Plain,
+        Cell::Unknown => Asks::Plain,
+    }
+}
+
+// How many bytes of data that is.
+pub(crate) fn count(asked: Asks) -> usize
+    ensures { λ r. ⌜ r ≡ countIn asked ⌝ }
+{
+    match asked {
+        Asks::Sending(n) => n as usize,
+        Asks::Awaiting(n) => n as usize,
+        Asks::Logging(n) => n as usize,
+        Asks::Opening => 0,
+        Asks::Closing => 0,
+        Asks::Plain => 0,
+    }
+}
+
+// The cell with its data at a place of the pool.
+pub(crate) fn placed(cell: Cell, asked: Asks, at: u16) -> Cell
+    ensures { λ r. ⌜ r ≡ placedAt at cell asked ⌝ }
+{
+    match asked {
+        Asks::Sending(n) => Cell::Send(Span { from: at, count: n }),
+        Asks::Awaiting(n) => Cell::WaitData(Span { from: at, count: n }),
+        Asks::Logging(n) => Cell::Log(Span { from: at, count: n }),
+        Asks::Opening => cell,
+        Asks::Closing => cell,
+        Asks::Plain => cell,
+    }
+}
