@@ -16,7 +16,8 @@ use Rattle.runner.specs.Waiting.{readyWait}
 use Rattle.runner.specs.Draining.{nobody}
 use Rattle.runner.specs.Calls as calls
 use Rattle.runner.specs.Calls.{Box, Call, startCall}
-use Rattle.promises.specs.Demand3.{Compiles, tally, Run, next, after, fresh, firstOf, endOf, Safe, Bounded}
+use Rattle.promises.specs.Replies.{Compiles}
+use Rattle.promises.specs.Demand3.{tally, Run, next, after, fresh, firstOf, endOf, Safe, Bounded}
 use Rattle.promises.proofs.Stands.{resting, Held}
 use Rattle.promises.proofs.Opens.{opens-length}
 use Rattle.promises.proofs.Accepting.{Fitting, fitting}
