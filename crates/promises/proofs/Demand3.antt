@@ -60,6 +60,7 @@ module _ (t : Table) (k : ℕ) (a : Fitting t k) where
 
   all-bounded : (r : Run) → All t k (r .box .state) (r .done) → Bounded t k r
   all-bounded r h = record {
+    eight = h .eight;
     safe = λ i l. safe-at i (r .done i) (getD (r .box .state .processes) i nobody) (h .every i l);
     found = λ q. call-keeps t k a (r .box) (r .done) h q .found;
     quiet = λ room. quiet-exactly t (r .box) (h .eight) room;

@@ -5,7 +5,7 @@ use mathlib.Core.Path.{_≡_}
 use mathlib.Core.Bool.{false, cond}
 use mathlib.Core.List.{List, [], _∷_}
 use Prim.Native.Nat.{ℕ, suc, _+_, _≤_, _<_}
-use lib.ListN.{getD}
+use lib.ListN.{length, getD}
 use lib.Dec.{eqb, ltb}
 use Rattle.figures.specs.Stretch.{over}
 use Rattle.language.specs.declared.Heads.{Heads}
@@ -84,7 +84,9 @@ pub record QuietExactly (t : Table) (b : Box) (room : ℕ) : Type 0 where
   pub only : called t (drain room) b .reply ≡ outcome Quiet [] → (busy (b .state) ≡ false) × (127 < room)
   pub always : busy (b .state) ≡ false → 127 < room → called t (drain room) b .reply ≡ outcome Quiet []
 
+-- there are eight processes, each safe; whichever call comes next, it is not answered 25; a drain is quiet when it should be
 pub record Bounded (t : Table) (k : ℕ) (r : Run) : Type 0 where
+  pub eight : length (r .box .state .processes) ≡ processLimit
   pub safe : (i : ℕ) → i < processLimit → Safe (t .heads) k i (r .done i) (getD (r .box .state .processes) i nobody)
   pub found : (q : Call) → replyNumber (called t q (r .box) .reply) ≡ 25 → ⊥
   pub quiet : (room : ℕ) → QuietExactly t (r .box) room
