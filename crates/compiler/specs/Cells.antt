@@ -7,6 +7,7 @@ use Rattle.language.specs.Cell.{span}
 use Rattle.compiler.specs.declared.Asks.{Asks}
 use Rattle.compiler.specs.declared.Asks.the-variants.{Sending, Awaiting, Logging, Opening, Closing, Plain}
 
+-- what each cell asks for
 abbrev pub asksOf : Cell → Asks
 asksOf Nothing = Plain
 asksOf (Send s) = Sending (s .count)
@@ -34,6 +35,7 @@ countIn Opening = 0
 countIn Closing = 0
 countIn Plain = 0
 
+-- what it does to the open loops
 abbrev pub shapeIn : Asks → Shape
 shapeIn (Sending n) = stays
 shapeIn (Awaiting n) = stays

@@ -58,6 +58,7 @@ unfoldable pub withLoops : Draft → List ℕ → Draft
 withLoops st ls =
     record { counted = st .counted; used = st .used; loops = ls; count = st .count; begun = st .begun; settings = st .settings; body = st .body }
 
+-- the loops opened or closed, or the fault of the line
 unfoldable pub nestedIn : ℕ → Draft → Nested → Taken
 nestedIn row st (now ls) = going (withLoops st ls)
 nestedIn row st (broken f) = stop f row

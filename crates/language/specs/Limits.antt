@@ -42,5 +42,6 @@ waitRoom = 115
 abbrev pub logRoom : ℕ
 logRoom = 122
 
+-- 127 less `#f:OMIT ` and the mark
 abbrev pub omitRoom : ℕ
 omitRoom = 118

@@ -26,7 +26,7 @@ use Rattle.language.specs.Stretch.{stretchOf, largestOf, largest}
 use Rattle.language.specs.Right as right
 use Rattle.language.specs.Right.{isByte, settingsRight, allBelow, scriptRight}
 use Rattle.language.specs.Draft.{Result, accepted, refused, resultOf}
-use Rattle.language.specs.Table.{padded, wordsFrom, endsFrom, headsOf, laidOut}
+use Rattle.language.specs.Table.{padded, wordsFrom, endsFrom, headsOf, laidOut, scriptOf}
 use Rattle.language.specs.Answer.{answered, scriptFrom, compiled}
 use Rattle.language.proofs.Good.{Good, good}
 use Rattle.language.proofs.Trip.{accepted-right}
@@ -43,7 +43,8 @@ use Rattle.accepted.specs.Accepted.{tableRight}
 use Rattle.accepted.specs.Tests.{zeros, wordsFit, wordsEnd, rising, endsOf, inUse, endsRight, cellsRight, settingsFit}
 use Rattle.accepted.proofs.Exactly.{script-of, laid-right}
 use Rattle.accepted.proofs.Laid.{laid-ends, laid-cells, laid-settings}
-use Rattle.promises.specs.Demand3.{Compiles, firstOf, endOf}
+use Rattle.promises.specs.Replies.{Compiles}
+use Rattle.promises.specs.Demand3.{firstOf, endOf}
 use Rattle.promises.proofs.Moves.{Own}
 use Rattle.promises.proofs.Parts.{slice-fits, Between, rising-at, getD-first}
 
@@ -58,6 +59,8 @@ pub record Sound (cells pool : List ℕ) (k first end : ℕ) : Type 0 where
 pub record Fitting (t : Table) (k : ℕ) : Type 0 where
   pub started : tableRight t ≡ true
   pub bounded : k ≤ limit
+  pub reported : largest (scriptOf t .body) ≡ k
+  pub measures : measured (t .cells) (t .heads) ≡ Largest k
   pub omitted : t .heads .omits ≤ omitLimit
   pub sound : (i : ℕ) → Sound (t .cells) (t .pool) k (firstOf (t .heads) i) (endOf (t .heads) i)
 
@@ -191,6 +194,8 @@ module _ (s : Script) (h : scriptRight stretchOf s ≡ true) where
   script-fitting = record {
     started = laid-right s h;
     bounded = largest-below (processes (s .body)) (g .below);
+    reported = ap (λ (x : Script). largest (x .body)) (script-of s h);
+    measures = measured-is;
     omitted = omits-few;
     sound = λ i. sound-any i (ltb i (hs .processes)) refl;
   }

@@ -39,7 +39,8 @@ use Rattle.runner.specs.Draining.{lowest, nobody, turn, outcomeOf, writes, stat
 use Rattle.runner.specs.Starting.{startAt, started, startState, noCounts}
 use Rattle.runner.specs.Calls as calls
 use Rattle.runner.specs.Calls.{Box, Call, start, tick, byte, reading, drain, outcome, Called, boxed, answeredBy, receivedBy, startCall}
-use Rattle.promises.specs.Demand3.{called, outcomeNumber, replyNumber, did, tally, firstOf, endOf}
+use Rattle.promises.specs.Replies.{called, outcomeNumber, replyNumber, did}
+use Rattle.promises.specs.Demand3.{tally, firstOf, endOf}
 use Rattle.promises.proofs.Ahead.{opensOf, onward}
 use Rattle.promises.proofs.Stands.{Held, Good}
 use Rattle.promises.proofs.Ways.{awake-right, awake-fine}

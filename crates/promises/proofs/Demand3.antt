@@ -16,7 +16,8 @@ use Rattle.runner.specs.Waiting.{readyWait}
 use Rattle.runner.specs.Draining.{nobody}
 use Rattle.runner.specs.Calls as calls
 use Rattle.runner.specs.Calls.{Box, Call, startCall}
-use Rattle.promises.specs.Demand3.{Compiles, tally, Run, next, after, fresh, firstOf, endOf, Safe, Bounded}
+use Rattle.promises.specs.Replies.{Compiles}
+use Rattle.promises.specs.Demand3.{tally, Run, next, after, fresh, firstOf, endOf, Safe, Bounded}
 use Rattle.promises.proofs.Stands.{resting, Held}
 use Rattle.promises.proofs.Opens.{opens-length}
 use Rattle.promises.proofs.Accepting.{Fitting, fitting}
@@ -59,6 +60,7 @@ module _ (t : Table) (k : ℕ) (a : Fitting t k) where
 
   all-bounded : (r : Run) → All t k (r .box .state) (r .done) → Bounded t k r
   all-bounded r h = record {
+    eight = h .eight;
     safe = λ i l. safe-at i (r .done i) (getD (r .box .state .processes) i nobody) (h .every i l);
     found = λ q. call-keeps t k a (r .box) (r .done) h q .found;
     quiet = λ room. quiet-exactly t (r .box) (h .eight) room;

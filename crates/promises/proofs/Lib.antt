@@ -10,6 +10,8 @@ pub mod Parts
 pub mod Accepting
 pub mod Several
 pub mod Calling
+pub mod Demand1
+pub mod Demand2
 pub mod Quietly
 pub mod Demand3
 pub mod Reached

@@ -18,7 +18,8 @@ use Rattle.runner.specs.Moving.{moved, cellAt}
 use Rattle.runner.specs.Draining.{lowest, turn, does, writes, unaltered, drained}
 use Rattle.runner.specs.Calls as calls
 use Rattle.runner.specs.Calls.{Box, drain, outcome}
-use Rattle.promises.specs.Demand3.{called, did, QuietExactly}
+use Rattle.promises.specs.Replies.{called, did}
+use Rattle.promises.specs.Demand3.{QuietExactly}
 use Rattle.promises.proofs.Several.{busy-lowest}
 use Rattle.promises.proofs.Calling.{outcome-did}
 

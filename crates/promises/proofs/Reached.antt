@@ -19,7 +19,8 @@ use Rattle.runner.specs.Draining.{lowest, outcomeOf, drained, stateAfter}
 use Rattle.runner.specs.Starting.{started, startedFrom, startState, noCounts}
 use Rattle.runner.specs.Calls as calls
 use Rattle.runner.specs.Calls.{Box, Call, drain, boxed, startCall}
-use Rattle.promises.specs.Demand3.{Compiles, tally, Run, next, after, fresh}
+use Rattle.promises.specs.Replies.{Compiles}
+use Rattle.promises.specs.Demand3.{tally, Run, next, after, fresh}
 use Rattle.promises.proofs.Accepting.{fitting}
 
 -- NOP and a rest: the stretch is 1

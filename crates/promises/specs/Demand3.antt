@@ -2,21 +2,16 @@
 -- refused ones among them, no process leaves its own statements, holds more than 8 open loops or is answered 25; and between a start,
 -- or an accepted event, and the next start or quiet moment no process does more than 4,097 statements." Assumes nothing: these are definitions.
 use mathlib.Core.Path.{_≡_}
-use mathlib.Core.Bool.{Bool, true, false, cond}
+use mathlib.Core.Bool.{false, cond}
 use mathlib.Core.List.{List, [], _∷_}
 use Prim.Native.Nat.{ℕ, suc, _+_, _≤_, _<_}
-use lib.ListN.{getD}
+use lib.ListN.{length, getD}
 use lib.Dec.{eqb, ltb}
-use Rattle.reader.specs.Bytes.{all}
 use Rattle.figures.specs.Stretch.{over}
 use Rattle.language.specs.declared.Heads.{Heads}
 use Rattle.language.specs.declared.Table.{Table}
-use Rattle.language.specs.declared.Answer.the-variants.{Accepted}
 use Rattle.language.specs.Limits.{loopLimit, processLimit}
-use Rattle.language.specs.Right.{isByte}
-use Rattle.language.specs.Answer.{compiled}
 use Rattle.stretch.specs.Marks.{begins, stops}
-use Rattle.accepted.specs.Accepted.{tableRight}
 use Rattle.runner.specs.declared.Wait.the-variants.{Over}
 use Rattle.runner.specs.declared.Process.{Process}
 use Rattle.runner.specs.declared.State.{State}
@@ -24,63 +19,12 @@ use Rattle.runner.specs.declared.Taken.{Taken}
 use Rattle.runner.specs.declared.Taken.the-variants as taken
 use Rattle.runner.specs.declared.Received.{Received}
 use Rattle.runner.specs.declared.Received.the-variants as received
-use Rattle.runner.specs.declared.Outcome.{Outcome}
-use Rattle.runner.specs.declared.Outcome.the-variants.{Quiet, Sent, Recorded, Rts, Fchange, Pause, Resume, Plain, Refused}
-use Rattle.runner.specs.Events.{refusalNumber, busy}
+use Rattle.runner.specs.declared.Outcome.the-variants.{Quiet}
+use Rattle.runner.specs.Events.{busy}
 use Rattle.runner.specs.Draining.{lowest, nobody}
 use Rattle.runner.specs.Calls as calls
-use Rattle.runner.specs.Calls.{Box, Call, start, drain, Reply, event, outcome, Called}
-
--- "a script that was accepted": a text of bytes compiles to the table t, and k is the stretch that is reported
-pub record Compiles (text : List ℕ) (t : Table) (k : ℕ) : Type 0 where
-  pub bytes : all isByte text ≡ true
-  pub result : compiled text ≡ record { answer = Accepted k; table = t }
-
--- a call of the runner, which starts a table exactly if some accepted script has it
-abbrev pub called : Table → Call → Box → Called
-called = calls.called tableRight
-
--- ---- what a reply says
-
--- "is answered 25": the number that a reply refuses by; 0 is no refusal
-abbrev pub takenNumber : Taken → ℕ
-takenNumber taken.Took = 0
-takenNumber (taken.Refused r) = refusalNumber r
-
--- the number that a received byte is answered by, 0 where it is taken
-abbrev pub receivedNumber : Received → ℕ
-receivedNumber (received.Took c) = 0
-receivedNumber (received.Refused r) = refusalNumber r
-
--- likewise of a drain
-abbrev pub outcomeNumber : Outcome → ℕ
-outcomeNumber Quiet = 0
-outcomeNumber (Sent n) = 0
-outcomeNumber (Recorded n) = 0
-outcomeNumber (Rts s) = 0
-outcomeNumber Fchange = 0
-outcomeNumber Pause = 0
-outcomeNumber Resume = 0
-outcomeNumber Plain = 0
-outcomeNumber (Refused r) = refusalNumber r
-
--- likewise of any call
-unfoldable pub replyNumber : Reply → ℕ
-replyNumber (event a) = takenNumber a
-replyNumber (calls.received a) = receivedNumber a
-replyNumber (outcome o bytes) = outcomeNumber o
-
--- a drain did a statement
-abbrev pub did : Outcome → Bool
-did Quiet = false
-did (Sent n) = true
-did (Recorded n) = true
-did (Rts s) = true
-did Fchange = true
-did Pause = true
-did Resume = true
-did Plain = true
-did (Refused r) = false
+use Rattle.runner.specs.Calls.{Box, Call, start, drain, Reply, event, outcome}
+use Rattle.promises.specs.Replies.{called, replyNumber, did}
 
 -- ---- the statements that each process has done since the last start or accepted event, by its number from 0
 
@@ -144,8 +88,9 @@ pub record QuietExactly (t : Table) (b : Box) (room : ℕ) : Type 0 where
   pub only : called t (drain room) b .reply ≡ outcome Quiet [] → (busy (b .state) ≡ false) × (127 < room)
   pub always : busy (b .state) ≡ false → 127 < room → called t (drain room) b .reply ≡ outcome Quiet []
 
--- demand 3 at one moment: each process is safe, no call is answered 25, and a drain says quiet exactly when none is ready
+-- there are eight processes, each safe; whichever call comes next, it is not answered 25; a drain is quiet when it should be
 pub record Bounded (t : Table) (k : ℕ) (r : Run) : Type 0 where
+  pub eight : length (r .box .state .processes) ≡ processLimit
   pub safe : (i : ℕ) → i < processLimit → Safe (t .heads) k i (r .done i) (getD (r .box .state .processes) i nobody)
   pub found : (q : Call) → replyNumber (called t q (r .box) .reply) ≡ 25 → ⊥
   pub quiet : (room : ℕ) → QuietExactly t (r .box) room

@@ -1,2 +1,5 @@
 -- What the demands come to, as claims over the definitions of the other crates.
+pub mod Replies
+pub mod Demand1
+pub mod Demand2
 pub mod Demand3

@@ -1,0 +1,71 @@
+-- Texts that compile, calls of the runner, and what a reply says: what the demands have in common. Assumes nothing: these are definitions.
+use mathlib.Core.Path.{_≡_}
+use mathlib.Core.Bool.{Bool, true, false}
+use mathlib.Core.List.{List}
+use Prim.Native.Nat.{ℕ}
+use Rattle.reader.specs.Bytes.{all}
+use Rattle.language.specs.declared.Table.{Table}
+use Rattle.language.specs.declared.Answer.the-variants.{Accepted}
+use Rattle.language.specs.Right.{isByte}
+use Rattle.language.specs.Answer.{compiled}
+use Rattle.accepted.specs.Accepted.{tableRight}
+use Rattle.runner.specs.declared.Taken.{Taken}
+use Rattle.runner.specs.declared.Taken.the-variants as taken
+use Rattle.runner.specs.declared.Received.{Received}
+use Rattle.runner.specs.declared.Received.the-variants as received
+use Rattle.runner.specs.declared.Outcome.{Outcome}
+use Rattle.runner.specs.declared.Outcome.the-variants.{Quiet, Sent, Recorded, Rts, Fchange, Pause, Resume, Plain, Refused}
+use Rattle.runner.specs.Events.{refusalNumber}
+use Rattle.runner.specs.Calls as calls
+use Rattle.runner.specs.Calls.{Box, Call, Reply, event, outcome, Called}
+
+-- "a script that was accepted": a text of bytes compiles to the table t, and k is the stretch that is reported
+pub record Compiles (text : List ℕ) (t : Table) (k : ℕ) : Type 0 where
+  pub bytes : all isByte text ≡ true
+  pub result : compiled text ≡ record { answer = Accepted k; table = t }
+
+-- a call of the runner, which starts a table exactly if some accepted script has it
+abbrev pub called : Table → Call → Box → Called
+called = calls.called tableRight
+
+-- ---- "Numbers the bench reads back": the number that a reply refuses by; 0 is no refusal
+
+-- "is answered 25": the number that an event is refused by, 0 where it is taken
+abbrev pub takenNumber : Taken → ℕ
+takenNumber taken.Took = 0
+takenNumber (taken.Refused r) = refusalNumber r
+
+-- the number that a received byte is answered by, 0 where it is taken
+abbrev pub receivedNumber : Received → ℕ
+receivedNumber (received.Took c) = 0
+receivedNumber (received.Refused r) = refusalNumber r
+
+-- likewise of a drain
+abbrev pub outcomeNumber : Outcome → ℕ
+outcomeNumber Quiet = 0
+outcomeNumber (Sent n) = 0
+outcomeNumber (Recorded n) = 0
+outcomeNumber (Rts s) = 0
+outcomeNumber Fchange = 0
+outcomeNumber Pause = 0
+outcomeNumber Resume = 0
+outcomeNumber Plain = 0
+outcomeNumber (Refused r) = refusalNumber r
+
+-- likewise of any call
+unfoldable pub replyNumber : Reply → ℕ
+replyNumber (event a) = takenNumber a
+replyNumber (calls.received a) = receivedNumber a
+replyNumber (outcome o bytes) = outcomeNumber o
+
+-- a drain did a statement
+abbrev pub did : Outcome → Bool
+did Quiet = false
+did (Sent n) = true
+did (Recorded n) = true
+did (Rts s) = true
+did Fchange = true
+did Pause = true
+did Resume = true
+did Plain = true
+did (Refused r) = false
