@@ -303,7 +303,7 @@ fn bounds_2() {
 }
 
 fn faults_1() {
-    case(b"no name, then data over", b"X\n#NOP");
+    case(b"line with no name", b"X\n#NOP");
     case(b"two faults in two lines", b"#NOP\n#END\n#LOOP 60001");
     case(b"name and rest", b"#WAIT TIMES 60001");
     case(
