@@ -22,6 +22,7 @@ pub enum Reach {
 pub fn is_accepted<'a>(cells: &'a Cells, pool: &'a Pool, heads: Heads) -> bool
     ensures { λ r. ⌜ r ≡ tableRight (record { cells = now (cells .entry); pool = now (pool .entry); heads = heads }) ⌝ }
 {
+    // A slice tells how long it is, which the test rests on.
     let words: &[u32] = cells;
     let bytes: &[u8] = pool;
     let reach = ends::cells_in_use(heads);
