@@ -13,3 +13,6 @@ pub mod Calling
 pub mod Quietly
 pub mod Demand3
 pub mod Reached
+pub mod Matches
+pub mod WaitLaws
+pub mod Turns
