@@ -16,3 +16,4 @@ pub mod Reached
 pub mod Matches
 pub mod WaitLaws
 pub mod Turns
+pub mod Cases

@@ -1,3 +1,4 @@
 -- What the demands come to, as claims over the definitions of the other crates.
 pub mod Demand3
 pub mod Waits
+pub mod Cases
