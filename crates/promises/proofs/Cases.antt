@@ -5,6 +5,7 @@ use mathlib.Core.List.{List, [], _∷_}
 use Prim.Native.Nat.{ℕ}
 use Rattle.reader.specs.Bytes.{all}
 use Rattle.reader.specs.Ascii.{ascii}
+use Rattle.figures.specs.Written as writing
 use Rattle.language.specs.declared.Answer.the-variants.{Accepted}
 use Rattle.language.specs.Right.{isByte}
 use Rattle.language.specs.Right as right
@@ -25,7 +26,7 @@ use Rattle.runner.specs.Starting as starting
 use Rattle.runner.specs.Starting.{startState, noCounts}
 use Rattle.runner.specs.Calls as calls
 use Rattle.runner.specs.Calls.{Box, Call, start, Reply, event, boxed, replies}
-use Rattle.promises.specs.Cases.{Case, answers, holds, alike, runs, Says, All, cases}
+use Rattle.promises.specs.Cases.{Case, answers, writesOut, holds, alike, runs, Says, All, cases}
 use Rattle.promises.proofs.Accepting.{fitting}
 
 -- what is computed of a run: the text compiles, and the replies from the state of a start on
@@ -44,6 +45,7 @@ runs-so text qs rs r b = rw (fitting {text = text} {t = compiled text .table} {k
 -- what is computed of a case, and of all
 abbrev Computed : Case → Type 0
 Computed (answers text a) = Says (answers text a)
+Computed (writesOut text k) = Says (writesOut text k)
 Computed (holds text ps) = Says (holds text ps)
 Computed (alike one other) = Says (alike one other)
 Computed (runs text qs rs) = Ran (ascii text) qs rs
@@ -54,6 +56,7 @@ AllComputed (c ∷ cs) = Computed c × AllComputed cs
 
 says : (c : Case) → Computed c → Says c
 says (answers text a) e = e
+says (writesOut text k) e = e
 says (holds text ps) e = e
 says (alike one other) e = e
 says (runs text qs rs) r = runs-so (ascii text) qs rs r
@@ -63,9 +66,9 @@ all-say [] e = tt
 all-say (c ∷ cs) e = (says c (e .0), all-say cs (e .1))
 
 computed : AllComputed cases
-unfolding compiled printed answered isByte right.timeRight cell.spanNumber cell.clockNumber cell.coded cell.spanRight cell.unitRight cell.fixedRight cell.cellOf cell.decoded cell.clockFrom table.cellFor table.wordsFrom table.poolOf table.endsFrom table.headsOf table.laidOut matching.progress matching.advance waiting.awake waiting.matchedWait waiting.progressRight recording.oneOf recording.copies events.busy events.rangesRight events.byteEvent moving.opened moving.again moving.pass moving.closed moving.neighbours moving.theirBytes moving.awaits moving.movedBy moving.moved logging.signText logging.writtenOut logging.recordOf logging.nextCount draining.lowest draining.bytesOf draining.outcomeOf draining.pausedBy draining.countedBy draining.does draining.writes draining.stateAfter draining.drained draining.countsAfter starting.started starting.startedFrom startState calls.called replies
+unfolding compiled printed writing.times writing.repeated writing.written writing.run answered isByte right.timeRight cell.spanNumber cell.clockNumber cell.coded cell.spanRight cell.unitRight cell.fixedRight cell.cellOf cell.decoded cell.clockFrom table.cellFor table.wordsFrom table.poolOf table.endsFrom table.headsOf table.laidOut matching.progress matching.advance waiting.awake waiting.matchedWait waiting.progressRight recording.oneOf recording.copies events.busy events.rangesRight events.byteEvent moving.opened moving.again moving.pass moving.closed moving.neighbours moving.theirBytes moving.awaits moving.movedBy moving.moved logging.signText logging.writtenOut logging.recordOf logging.nextCount draining.lowest draining.bytesOf draining.outcomeOf draining.pausedBy draining.countedBy draining.does draining.writes draining.stateAfter draining.drained draining.countsAfter starting.started starting.startedFrom startState calls.called replies
 computed =
-    (refl, (refl, (refl, (refl, (refl, (refl, (record { stretch = 0; bytes = refl; result = refl; replied = refl }, (refl, (refl, (refl, (refl, (refl, (refl, (record { stretch = 1; bytes = refl; result = refl; replied = refl }, (record { stretch = 1; bytes = refl; result = refl; replied = refl }, (record { stretch = 7; bytes = refl; result = refl; replied = refl }, tt))))))))))))))))
+    (refl, (λ m. refl, (refl, (λ m. refl, (refl, (λ m. refl, (refl, (refl, (refl, (record { stretch = 0; bytes = refl; result = refl; replied = refl }, (refl, (refl, (refl, (refl, (refl, (refl, (record { stretch = 1; bytes = refl; result = refl; replied = refl }, (record { stretch = 1; bytes = refl; result = refl; replied = refl }, (record { stretch = 7; bytes = refl; result = refl; replied = refl }, tt)))))))))))))))))))
 
 -- THE THEOREM
 pub cases-hold : All cases

@@ -7,12 +7,17 @@ use Prim.Native.String.{String}
 use lib.ListN.{take}
 use lib.Seq.{slice}
 use Rattle.reader.specs.Ascii.{ascii}
+use Rattle.figures.specs.Flat.{fragment}
+use Rattle.figures.specs.Written.{written, longest}
 use Rattle.language.specs.declared.Cell.{Cell}
 use Rattle.language.specs.declared.Cell.the-variants.{WaitTime}
 use Rattle.language.specs.declared.Answer.{Answer}
 use Rattle.language.specs.declared.Answer.the-variants.{Accepted, Refused}
 use Rattle.language.specs.declared.Table.{Table}
 use Rattle.language.specs.Cell.{decoded}
+use Rattle.language.specs.Script.{Statement, processes}
+use Rattle.language.specs.Stretch.{markOf}
+use Rattle.language.specs.Draft.{Result, accepted, refused, resultOf}
 use Rattle.language.specs.Answer.{numberOf, compiled}
 use Rattle.accepted.specs.Accepted.{tableRight}
 use Rattle.runner.specs.declared.Taken.the-variants as taken
@@ -38,9 +43,18 @@ statementsFrom cells from (e ∷ es) = map decoded (slice from e cells) ∷ stat
 abbrev pub statements : Table → List (List Cell)
 statements t = statementsFrom (t .cells) 0 (take (t .heads .processes) (t .heads .ends))
 
--- a text, and what it is answered; or the statements of its processes; two texts with the same table; or the replies to some calls
+-- the longest run of each process's statements written out, m passes of each forever loop among them; the text is taken without the bound of 11
+abbrev pub longestBy : ℕ → Result → List ℕ
+longestBy m (accepted s) = map (λ (p : List Statement). longest (written m (fragment (map markOf p)))) (processes (s .body))
+longestBy m (refused f row) = []
+
+abbrev pub unbounded : List ℕ → Result
+unbounded text = resultOf (λ p. 0) text
+
+-- a text, and what it is answered; the longest run of its one process written out; the statements of its processes; two texts with the same table; or the replies to some calls
 pub data Case : Type 0 where
   answers : String → Told → Case
+  writesOut : String → ℕ → Case
   holds : String → List (List Cell) → Case
   alike : String → String → Case
   runs : String → List Call → List Reply → Case
@@ -48,6 +62,7 @@ pub data Case : Type 0 where
 -- the table of a refused text has no process, so one with statements is an accepted text's; a run begins with a start, whatever the box held before
 abbrev pub Says : Case → Type 0
 Says (answers text a) = told (compiled (ascii text) .answer) ≡ a
+Says (writesOut text k) = (m : ℕ) → longestBy m (unbounded (ascii text)) ≡ k ∷ []
 Says (holds text ps) = statements (compiled (ascii text) .table) ≡ ps
 Says (alike one other) = compiled (ascii one) .table ≡ compiled (ascii other) .table
 Says (runs text qs rs) = (b : Box) → replies tableRight (compiled (ascii text) .table) b (start ∷ qs) ≡ event taken.Took ∷ rs
@@ -86,10 +101,13 @@ abbrev pub cases : List Case
 cases =
     -- "`#LOOP 2047`, `/A`, `#END`: stretch 4,095, accepted."
     answers "#LOOP 2047\n/A\n#END\n" (stretch 4095)
+    ∷ writesOut "#LOOP 2047\n/A\n#END\n" 4095
     -- "With `#NOP` before: 4,096, accepted."
     ∷ answers "#NOP\n#LOOP 2047\n/A\n#END\n" (stretch 4096)
+    ∷ writesOut "#NOP\n#LOOP 2047\n/A\n#END\n" 4096
     -- "`#LOOP 2048`: 4,097, refused 11."
     ∷ answers "#LOOP 2048\n/A\n#END\n" (number 11 1)
+    ∷ writesOut "#LOOP 2048\n/A\n#END\n" 4097
     -- "`#LOOP`, `#WAIT CTSON`, `#END`: 11."
     ∷ answers "#LOOP\n#WAIT CTSON\n#END\n" (number 11 1)
     -- "Empty text: one empty process, quiet at once."
