@@ -15,3 +15,7 @@ pub mod Demand2
 pub mod Quietly
 pub mod Demand3
 pub mod Reached
+pub mod Matches
+pub mod WaitLaws
+pub mod Turns
+pub mod Cases

@@ -3,3 +3,5 @@ pub mod Replies
 pub mod Demand1
 pub mod Demand2
 pub mod Demand3
+pub mod Waits
+pub mod Cases

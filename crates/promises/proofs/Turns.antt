@@ -1,0 +1,176 @@
+-- A byte counts for waits in every case; an event is taken only when no process is ready; a drain does one statement of one process. Assumes nothing.
+use mathlib.Core.Path.{_≡_, refl, sym, ap, _∙_}
+use mathlib.Core.Bool.{Bool, true, false, cond}
+use mathlib.Core.List.{List, map}
+use Prim.Native.Nat.{ℕ}
+use native.Mathlib.Omega.{arith}
+use lib.Dec.{ltb}
+use lib.ListN.{length, getD}
+use lib.Seq.{getD-set-same, getD-set-other}
+use borrow.Author.Tests.{ltb-true}
+use Rattle.reader.proofs.Tests.{true-is-false, by-cases}
+use Rattle.language.specs.declared.Heads.{Heads}
+use Rattle.language.specs.declared.Table.{Table}
+use Rattle.language.specs.Limits.{processLimit}
+use Rattle.runner.specs.declared.Process.{Process}
+use Rattle.runner.specs.declared.State.{State}
+use Rattle.runner.specs.declared.Copies.{Copies}
+use Rattle.runner.specs.declared.Refusal.{Refusal}
+use Rattle.runner.specs.declared.Refusal.the-variants.{Busy, BadReading, NoSuchSignal, SmallBuffer, BadTable}
+use Rattle.runner.specs.declared.Received.the-variants as received
+use Rattle.runner.specs.declared.Outcome.the-variants.{Quiet, Refused}
+use Rattle.runner.specs.declared.Event.{Event}
+use Rattle.runner.specs.declared.ByteEvent.{ByteEvent}
+use Rattle.runner.specs.declared.Drained.{Drained}
+use Rattle.runner.specs.Waiting.{byteTaken}
+use Rattle.runner.specs.Events.{busy, refused, took, answeredWith, tickEvent, readingRight, readingEvent, levelEvent, rangesRight, byteEvent}
+use Rattle.runner.specs.Moving.{moved, cellAt}
+use Rattle.runner.specs.Draining.{lowest, nobody, turn, outcomeOf, does, writes, unaltered, stateAfter, drained, countsAfter}
+use Rattle.runner.specs.Calls as calls
+use Rattle.runner.specs.Calls.{Box, Call, start, tick, byte, reading, level, drain, answeredBy, receivedBy}
+use Rattle.promises.specs.Demand3.{called}
+use Rattle.promises.specs.Waits as claims
+use Rattle.promises.specs.Waits.{withPaused, CountsAlways, isEvent, TakenWhenQuiet, OneStatement}
+use Rattle.promises.proofs.Several.{busy-lowest}
+
+-- ---- "It counts for waits in every case"
+
+module _ (pool : List ℕ) (h : Heads) (s : State) (b : ℕ) where
+  counts-taken : (right ready : Bool) (c k : Copies) (taken : State) → taken .processes ≡ map (byteTaken pool b) (s .processes)
+      → cond right (cond ready (answeredWith s (received.Refused Busy)) (answeredWith taken (received.Took k))) (answeredWith s (received.Refused BadTable)) .answer ≡ received.Took c
+      → cond right (cond ready (answeredWith s (received.Refused Busy)) (answeredWith taken (received.Took k))) (answeredWith s (received.Refused BadTable)) .state .processes
+      ≡ map (byteTaken pool b) (s .processes)
+  counts-taken true true c k taken e q = true-is-false (cc)
+  counts-taken true false c k taken e q = e
+  counts-taken false ready c k taken e q = true-is-false (cc)
+
+  alike-by : (right ready : Bool) (paused : Bool) (k l : Copies) (ps : List Process) →
+      cond right (cond ready (answeredWith (withPaused s paused) (received.Refused Busy)) (answeredWith (record { processes = ps; reading = s .reading; levels = s .levels; paused = paused }) (received.Took k))) (answeredWith (withPaused s paused) (received.Refused BadTable)) .state .processes
+      ≡ cond right (cond ready (answeredWith s (received.Refused Busy)) (answeredWith (record { processes = ps; reading = s .reading; levels = s .levels; paused = s .paused }) (received.Took l))) (answeredWith s (received.Refused BadTable)) .state .processes
+  alike-by true true paused k l ps = refl
+  alike-by true false paused k l ps = refl
+  alike-by false ready paused k l ps = refl
+
+  ranges-alike : (g : Heads) (paused : Bool) → rangesRight g (withPaused s paused) ≡ rangesRight g s
+  unfolding rangesRight
+  ranges-alike g paused = refl
+
+  busy-alike : (paused : Bool) → busy (withPaused s paused) ≡ busy s
+  unfolding busy
+  busy-alike paused = refl
+
+  pub counts-always : CountsAlways pool h s b
+  unfolding byteEvent
+  counts-always = record {
+    counts = λ c q. counts-taken (rangesRight h s) (busy s) c _ _ refl q;
+    alike = λ g paused e. rw (ranges-alike g paused ∙ e, busy-alike paused) (alike-by (rangesRight h s) (busy s) paused _ _ _);
+  }
+
+-- ---- "An event is taken only when no process is ready"
+
+module _ (b : Box) where
+  abbrev Fair : Event → Type 0
+  Fair e = TakenWhenQuiet b (answeredBy (b .counts) e)
+
+  -- refused, it alters nothing
+  refused-fair : (r : Refusal) → Fair (refused (b .state) r)
+  unfolding claims.took
+  refused-fair r = record { only = λ e. true-is-false (sym e); unaltered = λ e. refl }
+
+  module _ (quiet : busy (b .state) ≡ false) where
+    took-fair : (s : State) → Fair (took s)
+    unfolding claims.took
+    took-fair s = record { only = λ e. quiet; unaltered = λ e. true-is-false e }
+
+    -- by a test of its own
+    only-if : (u : Bool) (s : State) (r : Refusal) → Fair (cond u (took s) (refused (b .state) r))
+    only-if u s r = by-cases Fair u (took s) (refused (b .state) r) (λ v. took-fair s) (λ v. refused-fair r)
+
+  unless-busy : (e : Event) → (busy (b .state) ≡ false → Fair e) → Fair (cond (busy (b .state)) (refused (b .state) Busy) e)
+  unless-busy e f = by-cases Fair (busy (b .state)) (refused (b .state) Busy) e (λ u. refused-fair Busy) f
+
+  abbrev FairByte : ByteEvent → Type 0
+  FairByte e = TakenWhenQuiet b (receivedBy (b .counts) e)
+
+  refused-byte : (r : Refusal) → FairByte (answeredWith (b .state) (received.Refused r))
+  unfolding claims.took
+  refused-byte r = record { only = λ e. true-is-false (sym e); unaltered = λ e. refl }
+
+  took-byte : (s : State) (c : Copies) → busy (b .state) ≡ false → FairByte (answeredWith s (received.Took c))
+  unfolding claims.took
+  took-byte s c quiet = record { only = λ e. quiet; unaltered = λ e. true-is-false e }
+
+  byte-fair : (pool : List ℕ) (h : Heads) (x : ℕ) → FairByte (byteEvent pool h (b .state) x)
+  unfolding byteEvent
+  byte-fair pool h x =
+      by-cases FairByte (rangesRight h (b .state)) _ _
+      (λ u. by-cases FairByte (busy (b .state)) _ _ (λ v. refused-byte Busy) (λ v. took-byte _ _ v))
+      (λ u. refused-byte BadTable)
+
+  pub taken-when-quiet : (t : Table) (q : Call) → isEvent q ≡ true → TakenWhenQuiet b (called t q b)
+  unfolding calls.called tickEvent readingEvent levelEvent
+  taken-when-quiet t start e = true-is-false (sym e)
+  taken-when-quiet t tick e = unless-busy _ (λ u. took-fair u _)
+  taken-when-quiet t (byte x) e = byte-fair (t .pool) (t .heads) x
+  taken-when-quiet t (reading r) e = unless-busy _ (λ u. only-if u (readingRight r) _ BadReading)
+  taken-when-quiet t (level n on) e = unless-busy _ (λ u. only-if u (ltb n 5) _ NoSuchSignal)
+  taken-when-quiet t (drain room) e = true-is-false (sym e)
+
+-- ---- "A drain does one statement of the lowest-numbered ready process"
+
+module _ (t : Table) (b : Box) (room : ℕ) where
+  -- the state after a drain, by whether it does a statement
+  state-by : (one found wide : Bool) (s : State) (d : Drained) →
+      cond one (cond found (cond wide d (unaltered s (Refused SmallBuffer))) (unaltered s (Refused BadTable)))
+      (cond wide (unaltered s Quiet) (unaltered s (Refused SmallBuffer))) .state
+      ≡ cond (cond one (cond found wide false) false) (d .state) s
+  state-by true true true s d = refl
+  state-by true true false s d = refl
+  state-by true false wide s d = refl
+  state-by false found true s d = refl
+  state-by false found false s d = refl
+
+  state-is : drained (t .cells) (t .pool) (b .state) (b .counts) room .state ≡ cond (does (t .cells) (b .state) room) (stateAfter (t .cells) (b .state)) (b .state)
+  unfolding drained does
+  state-is =
+      let n : ℕ = length (writes (t .cells) (t .pool) (b .state) (b .counts)) in
+      state-by (ltb (lowest (b .state .processes)) processLimit) (moved (t .cells) (b .state .levels) (turn (b .state)) .found) (ltb 127 room) (b .state)
+      (record { state = stateAfter (t .cells) (b .state); outcome = outcomeOf n (cellAt (t .cells) (turn (b .state))) })
+
+  abbrev after : State
+  after = called t (drain room) b .box .state
+
+  after-is : after ≡ cond (does (t .cells) (b .state) room) (stateAfter (t .cells) (b .state)) (b .state)
+  unfolding calls.called
+  after-is = state-is
+
+  others-as : (i : ℕ) → (i ≡ lowest (b .state .processes) → ⊥) → (u : Bool) →
+      getD (cond u (stateAfter (t .cells) (b .state)) (b .state) .processes) i nobody ≡ getD (b .state .processes) i nobody
+  unfolding stateAfter
+  others-as i n true = getD-set-other (b .state .processes) (lowest (b .state .processes)) i _ nobody n
+  others-as i n false = refl
+
+  lowest-in : does (t .cells) (b .state) room ≡ true → ltb (lowest (b .state .processes)) processLimit ≡ true
+  unfolding does
+  lowest-in e = go (ltb (lowest (b .state .processes)) processLimit) _ e
+    where
+      go : (u v : Bool) → cond u v false ≡ true → u ≡ true
+      go true v q = refl
+      go false v q = q
+
+  box-as : does (t .cells) (b .state) room ≡ false → called t (drain room) b .box ≡ b
+  unfolding calls.called countsAfter
+  box-as e = let s : drained (t .cells) (t .pool) (b .state) (b .counts) room .state ≡ b .state = state-is ∙ rw e in rw (s, e)
+
+  pub one-statement : length (b .state .processes) ≡ processLimit → OneStatement t b room
+  unfolding stateAfter busy
+  one-statement eight = record {
+    others = λ i n. ap (λ (s : State). getD (s .processes) i nobody) after-is ∙ others-as i n (does (t .cells) (b .state) room);
+    one = λ e.
+        let l = ltb-true (lowest (b .state .processes)) processLimit (lowest-in e) in
+        let s : after ≡ stateAfter (t .cells) (b .state) = after-is ∙ rw e in
+        ap (λ (s : State). getD (s .processes) (lowest (b .state .processes)) nobody) s
+        ∙ getD-set-same (b .state .processes) (lowest (b .state .processes)) _ nobody (omega arith);
+    ready = λ e. busy-lowest (b .state .processes) ∙ rw eight (lowest-in e);
+    none = box-as;
+  }
