@@ -261,6 +261,9 @@ fn bounds_1() {
         b"#NOP\n#PROCESS\n#PROCESS\n#PROCESS\n#PROCESS\n#PROCESS\n#PROCESS\n#PROCESS\n#PROCESS\n",
     );
     case(b"10 omitted", b"#f:OMIT /12345\n#f:OMIT /12345\n");
+}
+
+fn bounds_2() {
     case(b"11 omitted", b"#f:OMIT /12345\n#f:OMIT /123456\n");
     case(
         b"line of 127",
@@ -278,11 +281,11 @@ fn bounds_1() {
         b"line of 128 with CR",
         b"; aaaaaaaaaaaaaaaaaaaaaaaaaaaaaaaaaaaaaaaaaaaaaaaaaaaaaaaaaaaaaaaaaaaaaaaaaaaaaaaaaaaaaaaaaaaaaaaaaaaaaaaaaaaaaaaaaaaaaaaaaaaaaa\r\n",
     );
-}
-
-fn bounds_2() {
     case(b"LOOP 60000", b"#LOOP 60000\n#WAIT TIME 1\n#END");
     case(b"LOOP 60001", b"#LOOP 60001\n#WAIT TIME 1\n#END");
+}
+
+fn bounds_3() {
     case(b"stretch 4,095", b"#LOOP 2047\n/A\n#END");
     case(b"stretch 4,096", b"#NOP\n#LOOP 2047\n/A\n#END");
     case(b"stretch 4,097", b"#LOOP 2048\n/A\n#END");
@@ -296,6 +299,9 @@ fn bounds_2() {
         b"behind a forever loop",
         b"#LOOP\n#WAIT BYTE\n#END\n#LOOP 60000\n#NOP\n#END",
     );
+}
+
+fn bounds_4() {
     case(
         b"8 loops of 60,000",
         b"#LOOP 60000\n#LOOP 60000\n#LOOP 60000\n#LOOP 60000\n#LOOP 60000\n#LOOP 60000\n#LOOP 60000\n#LOOP 60000\n#WAIT TIME\n#END\n#END\n#END\n#END\n#END\n#END\n#END\n#END\n",
@@ -313,6 +319,9 @@ fn faults_1() {
     case(b"END with none open", b"#END");
     case(b"loop open at the end", b"#LOOP 2\n#NOP\n#LOOP 3\n");
     case(b"loop open at PROCESS", b"#LOOP 2\n#LOOP 3\n#PROCESS\n#END");
+}
+
+fn faults_2() {
     case(b"loop left open and over", b"#NOP\n#LOOP\n");
     case(b"fault behind an open loop", b"#LOOP\n#NOPE");
     case(b"LF at the end", b"#NOP\n");
@@ -321,14 +330,14 @@ fn faults_1() {
         b"comment between waits",
         b"#WAIT DATA /AB\n; c\n#WAIT DATA /C",
     );
-}
-
-fn faults_2() {
     case(b"NOP between waits", b"#WAIT DATA /AB\n#NOP\n#WAIT DATA /C");
     case(
         b"tank meter",
         b"; tank meter\n#LOOP\n#WAIT CLOCK\n:41 0d\n#WAIT DATA /OK\n#LOG north @c@r@n\n#END",
     );
+}
+
+fn faults_3() {
     case(
         b"every f: line",
         b"#f:ENCODE :1B\n#f:STOPBITS 2\n#f:EX2 IN\n#f:OMIT :0A\n#f:OMIT :0D\n#f:LFEXT csv\n#NOP",
@@ -381,8 +390,11 @@ fn main() {
     settings_3();
     bounds_1();
     bounds_2();
+    bounds_3();
+    bounds_4();
     faults_1();
     faults_2();
+    faults_3();
     long_texts();
     much_data();
 }

@@ -28,7 +28,7 @@ use Rattle.runner.specs.Moving.{moved, cellAt}
 use Rattle.runner.specs.Draining.{lowest, nobody, turn, outcomeOf, does, writes, unaltered, stateAfter, drained, countsAfter}
 use Rattle.runner.specs.Calls as calls
 use Rattle.runner.specs.Calls.{Box, Call, start, tick, byte, reading, level, drain, answeredBy, receivedBy}
-use Rattle.promises.specs.Demand3.{called}
+use Rattle.promises.specs.Replies.{called}
 use Rattle.promises.specs.Waits as claims
 use Rattle.promises.specs.Waits.{withPaused, CountsAlways, isEvent, TakenWhenQuiet, OneStatement}
 use Rattle.promises.proofs.Several.{busy-lowest}

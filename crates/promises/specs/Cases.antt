@@ -31,6 +31,7 @@ pub data Told : Type 0 where
   stretch : ℕ → Told
   number : ℕ → ℕ → Told
 
+-- what an answer is read back as
 abbrev pub told : Answer → Told
 told (Accepted k) = stretch k
 told (Refused f row) = number (numberOf f) row
@@ -40,6 +41,7 @@ abbrev pub statementsFrom : List ℕ → ℕ → List ℕ → List (List Cell)
 statementsFrom cells from [] = []
 statementsFrom cells from (e ∷ es) = map decoded (slice from e cells) ∷ statementsFrom cells e es
 
+-- of all processes of a table
 abbrev pub statements : Table → List (List Cell)
 statements t = statementsFrom (t .cells) 0 (take (t .heads .processes) (t .heads .ends))
 
@@ -48,6 +50,7 @@ abbrev pub longestBy : ℕ → Result → List ℕ
 longestBy m (accepted s) = map (λ (p : List Statement). longest (written m (fragment (map markOf p)))) (processes (s .body))
 longestBy m (refused f row) = []
 
+-- the script of a text, however long its stretch
 abbrev pub unbounded : List ℕ → Result
 unbounded text = resultOf (λ p. 0) text
 
@@ -67,6 +70,7 @@ Says (holds text ps) = statements (compiled (ascii text) .table) ≡ ps
 Says (alike one other) = compiled (ascii one) .table ≡ compiled (ascii other) .table
 Says (runs text qs rs) = (b : Box) → replies tableRight (compiled (ascii text) .table) b (start ∷ qs) ≡ event taken.Took ∷ rs
 
+-- every case of a table of cases
 abbrev pub All : List Case → Type 0
 All [] = Unit {0}
 All (c ∷ cs) = Says c × All cs
@@ -75,15 +79,19 @@ All (c ∷ cs) = Says c × All cs
 abbrev pub once : Reply
 once = calls.received (received.Took (record { count = 1 }))
 
+-- a drain that says quiet
 abbrev pub quiet : Reply
 quiet = outcome Quiet []
 
+-- a drain whose statement neither sent, recorded nor switched
 abbrev pub plain : Reply
 plain = outcome Plain []
 
+-- one that sent a byte
 abbrev pub sentOne : ℕ → Reply
 sentOne b = outcome (Sent (record { bytes = 1 })) (b ∷ [])
 
+-- one that recorded a byte
 abbrev pub recordedOne : ℕ → Reply
 recordedOne b = outcome (Recorded (record { bytes = 1 })) (b ∷ [])
 
@@ -97,6 +105,7 @@ abbrev pub waitsThrough : List ℕ → List Reply → List Reply
 waitsThrough [] rs = rs
 waitsThrough (b ∷ bs) rs = once ∷ quiet ∷ waitsThrough bs rs
 
+-- the cases marked P, in document 01's order
 abbrev pub cases : List Case
 cases =
     -- "`#LOOP 2047`, `/A`, `#END`: stretch 4,095, accepted."

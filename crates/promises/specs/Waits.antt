@@ -25,7 +25,7 @@ use Rattle.runner.specs.Moving.{moved}
 use Rattle.runner.specs.Draining.{lowest, nobody, turn, does}
 use Rattle.runner.specs.Calls as calls
 use Rattle.runner.specs.Calls.{Box, Call, start, tick, byte, reading, level, drain, Reply, event, outcome, Called}
-use Rattle.promises.specs.Demand3.{called}
+use Rattle.promises.specs.Replies.{called}
 
 -- ---- a wait, and events since it began
 
@@ -38,6 +38,7 @@ since take (e ∷ es) w = since take es (take e w)
 abbrev pub sinceTicks : ℕ → ℕ → List (Unit {0}) → Wait → Wait
 sinceTicks place end = since (λ e. tickedWait place end)
 
+-- the bytes received since a wait began
 abbrev pub sinceBytes : List ℕ → ℕ → ℕ → List ℕ → Wait → Wait
 sinceBytes pool place end = since (λ b. byteWait pool b place end)
 
@@ -66,6 +67,7 @@ pub record DataWait (pool : List ℕ) (m : Progress) (place end : ℕ) : Type 0 
 
 -- ---- "It counts for waits in every case"
 
+-- the state, paused or not
 abbrev pub withPaused : State → Bool → State
 withPaused s paused = record { processes = s .processes; reading = s .reading; levels = s .levels; paused = paused }
 
@@ -82,10 +84,12 @@ abbrev pub tookEvent : Taken → Bool
 tookEvent taken.Took = true
 tookEvent (taken.Refused r) = false
 
+-- likewise a received byte
 abbrev pub tookByte : Received → Bool
 tookByte (received.Took c) = true
 tookByte (received.Refused r) = false
 
+-- likewise any call
 unfoldable pub took : Reply → Bool
 took (event a) = tookEvent a
 took (calls.received a) = tookByte a
