@@ -99,24 +99,21 @@ fn statements_1() {
     line(b":4");
     line(b":4 1");
     line(b":4G");
-}
-
-fn statements_2() {
     line(b"#NOP");
     line(b"#NOP \t");
     line(b"#NOP 1");
     line(b"#FCHANGE");
     line(b"#PAUSE");
     line(b"#RESUME");
+}
+
+fn statements_2() {
     line(b"#RTS ON");
     line(b"#RTS OFF");
     line(b"#RTS  ON ");
     line(b"#RTS");
     line(b"#RTS on");
     line(b"#LOG");
-}
-
-fn statements_3() {
     line(b"#LOG ");
     line(b"#LOG north @c@r@n");
     line(b"#LOG @");
@@ -143,24 +140,21 @@ fn waits_1() {
     line(b"#WAIT TIME 60000MS");
     line(b"#WAIT TIME 60001MS");
     line(b"#WAIT TIME 60000S");
-}
-
-fn waits_2() {
     line(b"#WAIT TIME 60001");
     line(b"#WAIT TIME 999M");
     line(b"#WAIT TIME 1000M");
     line(b"#WAIT TIME 00005");
     line(b"#WAIT TIME 000005");
     line(b"#WAIT TIME 0");
+}
+
+fn waits_2() {
     line(b"#WAIT DATA /OK");
     line(b"#WAIT DATA :4F4b");
     line(b"#WAIT DATA");
     line(b"#WAIT DATA /");
     line(b"#WAIT DATA :");
     line(b"#WAIT DATA OK");
-}
-
-fn waits_3() {
     line(b"#WAIT BYTE");
     line(b"#WAIT BYTE 0");
     line(b"#WAIT BYTE 60000");
@@ -186,15 +180,15 @@ fn clocks_1() {
     line(b"#WAIT CLOCK 24");
     line(b"#WAIT CLOCK h2359");
     line(b"#WAIT CLOCK h2360");
-}
-
-fn clocks_2() {
     line(b"#WAIT CLOCK m");
     line(b"#WAIT CLOCK m59");
     line(b"#WAIT CLOCK m60");
     line(b"#WAIT CLOCK s");
     line(b"#WAIT CLOCK s59");
     line(b"#WAIT CLOCK s60");
+}
+
+fn clocks_2() {
     line(b"#WAIT CLOCK s5");
     line(b"#WAIT CLOCK h 12");
     line(b"#WAIT CLOCK s5959");
@@ -213,24 +207,21 @@ fn settings_1() {
     line(b"#f:STOPBITS 1");
     line(b"#f:STOPBITS");
     line(b"#f:STOPBITS 22");
-}
-
-fn settings_2() {
     line(b"#f:EX1 IN");
     line(b"#f:EX4 IN");
     line(b"#f:EX5 IN");
     line(b"#f:EX1 OUT");
     line(b"#f:OMIT :");
     line(b"#f:OMIT /ab");
+}
+
+fn settings_2() {
     line(b"#f:OMIT :0A");
     line(b"#f:OMIT ab");
     line(b"#f:LFEXT a");
     line(b"#f:LFEXT Dat");
     line(b"#f:LFEXT 7");
     line(b"#f:LFEXT");
-}
-
-fn settings_3() {
     line(b"#f:LFEXT long");
     line(b"#f:LFEXT a-b");
 }
@@ -379,15 +370,12 @@ fn much_data() {
 fn main() {
     statements_1();
     statements_2();
-    statements_3();
     waits_1();
     waits_2();
-    waits_3();
     clocks_1();
     clocks_2();
     settings_1();
     settings_2();
-    settings_3();
     bounds_1();
     bounds_2();
     bounds_3();
