@@ -54,7 +54,8 @@ longestBy m (refused f row) = []
 abbrev pub unbounded : List ℕ → Result
 unbounded text = resultOf (λ p. 0) text
 
--- a text, and what it is answered; the longest run of its one process written out; the statements of its processes; two texts with the same table; or the replies to some calls
+-- a text, and what it is answered; the longest run of its one process written out; the statements of its processes; two texts with the same table;
+-- or the replies to some calls
 pub data Case : Type 0 where
   answers : String → Told → Case
   writesOut : String → ℕ → Case
@@ -75,7 +76,7 @@ abbrev pub All : List Case → Type 0
 All [] = Unit {0}
 All (c ∷ cs) = Says c × All cs
 
--- a byte is recorded once; a drain with the least buffer
+-- replies: a byte is recorded once; a drain is quiet, does a statement that says nothing, sends a byte or records one
 abbrev pub once : Reply
 once = calls.received (received.Took (record { count = 1 }))
 

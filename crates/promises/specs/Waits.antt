@@ -34,10 +34,6 @@ unfoldable pub since : {E : Type 0} → (E → Wait → Wait) → List E → Wai
 since take [] w = w
 since take (e ∷ es) w = since take es (take e w)
 
--- the ticks: one is as another
-abbrev pub sinceTicks : ℕ → ℕ → List (Unit {0}) → Wait → Wait
-sinceTicks place end = since (λ e. tickedWait place end)
-
 -- the bytes received since a wait began
 abbrev pub sinceBytes : List ℕ → ℕ → ℕ → List ℕ → Wait → Wait
 sinceBytes pool place end = since (λ b. byteWait pool b place end)
@@ -47,7 +43,7 @@ pub record EndsAtLast {E : Type 0} (take : E → Wait → Wait) (wait : ℕ → 
   pub waits : (n : ℕ) (es : List E) → length es < n → since take es (wait n) ≡ wait (n - length es)
   pub ends : (n : ℕ) (es : List E) → 0 < n → n ≤ length es → since take es (wait n) ≡ awake place end
 
--- "WAIT TIME of n ms ends at the n-th tick after it began. WAIT BYTE likewise for bytes", of a process at a place
+-- "WAIT TIME of n ms ends at the n-th tick after it began. WAIT BYTE likewise for bytes", of a process at a place; one tick is as another
 pub record CountedWaits (pool : List ℕ) (place end : ℕ) : Type 0 where
   pub time : EndsAtLast {E = Unit {0}} (λ e. tickedWait place end) Ticks place end
   pub bytes : EndsAtLast {E = ℕ} (λ b. byteWait pool b place end) Bytes place end
