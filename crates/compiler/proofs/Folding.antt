@@ -1,6 +1,6 @@
 -- The states of `take_lines`' two loops, and what each turn makes of them. Assumes nothing.
 use Prim.Native.Nat.{ℕ, _+_, _-_, _≤_, _<_}
-use mathlib.Core.Path.{_≡_, refl, sym, ap, subst, _∙_}
+use mathlib.Core.Path.{_≡_, refl, ap, subst, _∙_}
 use mathlib.Core.Bool.{true}
 use mathlib.Core.List.{List, [], _∷_}
 use native.Mathlib.Omega.{arith}
@@ -14,7 +14,7 @@ use Rattle.language.specs.Limits.{textLimit, lineLimit, linesLimit, dataLimit}
 use Rattle.language.specs.Lines.{dropCr, linesOf}
 use Rattle.language.specs.Script.{Item, does, next, default, dataOf}
 use Rattle.language.specs.Stretch.{stretchOf}
-use Rattle.language.specs.Right.{inLine, nextsIn}
+use Rattle.language.specs.Right.{inLine}
 use Rattle.language.specs.Draft.{Result, refused, Draft, start, Taken, going, stop, takeLine, after, finished, fold, resultOf}
 use Rattle.language.specs.Table.{wordsFrom, poolOf, endsFrom, headsOf}
 use Rattle.language.specs.Answer.{answered, scriptFrom, compiled}
