@@ -4,14 +4,14 @@ use mathlib.Core.Path.{_≡_, refl, sym, ap, _∙_}
 use mathlib.Core.Bool.{true, false}
 use mathlib.Core.List.{List, [], _∷_, _++_}
 use native.Mathlib.Omega.{arith}
-use lib.ListN.{length, take, getD, set, length-append}
+use lib.ListN.{length, getD, set, length-append}
 use borrow.Author.Tests.{lt-ltb, le-ltb}
 use Rattle.language.specs.declared.Heads.{Heads}
 use Rattle.language.specs.declared.Fault.the-variants.{LoopLeftOpen, TooManyProcesses}
 use Rattle.language.specs.Limits.{processLimit}
 use Rattle.language.specs.Script.{Item, next}
 use Rattle.language.specs.Draft.{Draft, withNext, withFirst, beginning, takeProcess}
-use Rattle.language.specs.Table.{wordsFrom, poolOf, endsFrom, headsOf}
+use Rattle.language.specs.Table.{wordsFrom, endsFrom, headsOf}
 use Rattle.compiler.specs.declared.Work.{Work}
 use Rattle.compiler.specs.declared.Step.the-variants.{Stop}
 use Rattle.compiler.specs.declared.Taken as code

@@ -1,6 +1,6 @@
--- The states of `compile`'s two loops, and what each turn makes of them. Assumes nothing.
+-- The states of `take_lines`' two loops, and what each turn makes of them. Assumes nothing.
 use Prim.Native.Nat.{ℕ, _+_, _-_, _≤_, _<_}
-use mathlib.Core.Path.{_≡_, refl, sym, ap, subst, _∙_}
+use mathlib.Core.Path.{_≡_, refl, ap, subst, _∙_}
 use mathlib.Core.Bool.{true}
 use mathlib.Core.List.{List, [], _∷_}
 use native.Mathlib.Omega.{arith}
@@ -14,7 +14,7 @@ use Rattle.language.specs.Limits.{textLimit, lineLimit, linesLimit, dataLimit}
 use Rattle.language.specs.Lines.{dropCr, linesOf}
 use Rattle.language.specs.Script.{Item, does, next, default, dataOf}
 use Rattle.language.specs.Stretch.{stretchOf}
-use Rattle.language.specs.Right.{inLine, nextsIn}
+use Rattle.language.specs.Right.{inLine}
 use Rattle.language.specs.Draft.{Result, refused, Draft, start, Taken, going, stop, takeLine, after, finished, fold, resultOf}
 use Rattle.language.specs.Table.{wordsFrom, poolOf, endsFrom, headsOf}
 use Rattle.language.specs.Answer.{answered, scriptFrom, compiled}
@@ -32,25 +32,24 @@ use Rattle.compiler.proofs.Texts.{part-none, part-length, no-lines, in-
 use Rattle.compiler.proofs.Writing.{never}
 
 -- at the head of the loop over lines: the whole is the fold over the lines from `from` on, with what stands of the draft so far
-pub record Folding (s : List ℕ) (w : Work) (step : Step) (row from : ℕ) (cells pool : List ℕ) : Type 0 where
+pub record Folding (s : List ℕ) (w : Work) (row from : ℕ) (cells pool : List ℕ) : Type 0 where
   pub st : Draft
   pub sound : Sound 0 st
   pub stands : Stands st w cells pool
-  pub on : step ≡ Going
   pub rows : row ≤ from + 1
   pub whole : compiled s ≡ answered (fold stretchOf (linesOf (drop from s)) row st)
 
 -- at the head of the loop over a line's bytes: none up to `e` is an LF
-pub record Scanning (s : List ℕ) (w : Work) (step : Step) (row from : ℕ) (cells pool : List ℕ) (e : ℕ) : Type 0 where
-  pub folding : Folding s w step row from cells pool
+pub record Scanning (s : List ℕ) (w : Work) (row from : ℕ) (cells pool : List ℕ) (e : ℕ) : Type 0 where
+  pub folding : Folding s w row from cells pool
   pub text : from < length s
   pub begun : from ≤ e
   pub upto : e ≤ length s
   pub clean : NoLf (part s from e)
 
 -- after that loop: the line is whole, and the others come after it
-pub record Lined (s : List ℕ) (w : Work) (step : Step) (row from : ℕ) (cells pool : List ℕ) (e : ℕ) : Type 0 where
-  pub folding : Folding s w step row from cells pool
+pub record Lined (s : List ℕ) (w : Work) (row from : ℕ) (cells pool : List ℕ) (e : ℕ) : Type 0 where
+  pub folding : Folding s w row from cells pool
   pub begun : from ≤ e
   pub upto : e ≤ length s
   pub cut : linesOf (drop from s) ≡ dropCr (part s from e) ∷ linesOf (drop (e + 1) s)
@@ -78,9 +77,9 @@ nothing =
       bytes = refl;
     }
 
-pub first : (s : List ℕ) → length s ≤ textLimit → Folding s noLines Going 1 0 (replicate linesLimit 0) (replicate dataLimit 0)
+pub first : (s : List ℕ) → length s ≤ textLimit → Folding s noLines 1 0 (replicate linesLimit 0) (replicate dataLimit 0)
 unfolding compiled scriptFrom resultOf
-first s h = record { st = start; sound = start-sound; stands = nothing; on = refl; rows = omega arith; whole = rw (le-leb (length s) textLimit h) }
+first s h = record { st = start; sound = start-sound; stands = nothing; rows = omega arith; whole = rw (le-leb (length s) textLimit h) }
 
 -- ---- what the code may count on
 
@@ -97,7 +96,7 @@ body-few [] = omega arith
 body-few (does s ∷ is) = omega (arith, items-length (does s ∷ is))
 body-few (next ∷ is) = omega (arith, items-length (next ∷ is))
 
-pub ready : {s : List ℕ} {w : Work} {step : Step} {row from : ℕ} {cells pool : List ℕ} → Folding s w step row from cells pool → Ready w
+pub ready : {s : List ℕ} {w : Work} {row from : ℕ} {cells pool : List ℕ} → Folding s w row from cells pool → Ready w
 unfolding headsOf
 ready {w = w} f =
     let st = f .st in
@@ -127,24 +126,24 @@ unfolding after
 no-further (going st) go r cells pool k e = absurd (never (r .step) (k .0) e)
 no-further (stop f n) go r cells pool k e = cc
 
-module _ {s : List ℕ} {w : Work} {step : Step} {row from : ℕ} {cells pool : List ℕ} where
+module _ {s : List ℕ} {w : Work} {row from : ℕ} {cells pool : List ℕ} where
   -- a line is begun
-  pub opened : Folding s w step row from cells pool → from < length s → Scanning s w step row from cells pool from
+  pub opened : Folding s w row from cells pool → from < length s → Scanning s w row from cells pool from
   opened f h = record { folding = f; text = h; begun = omega arith; upto = omega arith; clean = rw (part-none s from) }
 
   -- no line is left
-  pub ended : (f : Folding s w step row from cells pool) → length s ≤ from → compiled s ≡ answered (finished stretchOf (scriptIn (f .st)) (f .st .loops))
+  pub ended : (f : Folding s w row from cells pool) → length s ≤ from → compiled s ≡ answered (finished stretchOf (scriptIn (f .st)) (f .st .loops))
   unfolding fold
   ended f h = f .whole ∙ ap (λ (ls : List (List ℕ)). answered (fold stretchOf ls row (f .st))) (no-lines s from h)
 
-  module _ {e : ℕ} (g : Scanning s w step row from cells pool e) where
-    pub passed : e < length s → (getD s e 0 ≡ 10 → ⊥) → Scanning s w step row from cells pool (e + 1)
+  module _ {e : ℕ} (g : Scanning s w row from cells pool e) where
+    pub passed : e < length s → (getD s e 0 ≡ 10 → ⊥) → Scanning s w row from cells pool (e + 1)
     passed h n = record { folding = g .folding; text = g .text; begun = omega (arith, g .begun); upto = omega arith; clean = no-lf-more s from e (g .begun) h n (g .clean) }
 
-    pub at-feed : e < length s → getD s e 0 ≡ 10 → Lined s w step row from cells pool e
+    pub at-feed : e < length s → getD s e 0 ≡ 10 → Lined s w row from cells pool e
     at-feed h n = record { folding = g .folding; begun = g .begun; upto = g .upto; cut = feed-ends s from e (g .begun) h n (g .clean) }
 
-    pub at-end : length s ≤ e → Lined s w step row from cells pool e
+    pub at-end : length s ≤ e → Lined s w row from cells pool e
     at-end h = record { folding = g .folding; begun = g .begun; upto = g .upto; cut = text-ends s from e (g .begun) h (g .upto) (g .text) (g .clean) }
 
     -- "line over 127": so many bytes and no LF, nor one at `e`
@@ -160,7 +159,7 @@ module _ {s : List ℕ} {w : Work} {step : Step} {row from : ℕ} {cells pool : 
         ∙ rw (lt-ltb lineLimit (length (dropCr (b .first))) long)
 
   -- the line without its CR ends at `behind`
-  module _ {e : ℕ} (behind : ℕ) (g : Lined s w step row from cells pool e) (bytes : (i : ℕ) → getD s i 0 < 256) (cr : dropCr (part s from e) ≡ part s from behind) where
+  module _ {e : ℕ} (behind : ℕ) (g : Lined s w row from cells pool e) (bytes : (i : ℕ) → getD s i 0 < 256) (cr : dropCr (part s from e) ≡ part s from behind) where
     lines : linesOf (drop from s) ≡ part s from behind ∷ linesOf (drop (e + 1) s)
     lines = g .cut ∙ rw cr
 
@@ -177,11 +176,11 @@ module _ {s : List ℕ} {w : Work} {step : Step} {row from : ℕ} {cells pool : 
       found : Took (takeLine row (g .folding .st) (part s from behind)) r cells′ pool′
       found = took (g .folding .st) (g .folding .stands)
 
-      pub goes-on : r .step ≡ Going → Folding s (r .work) step (row + 1) (e + 1) cells′ pool′
+      pub goes-on : r .step ≡ Going → Folding s (r .work) (row + 1) (e + 1) cells′ pool′
       goes-on k =
           let t : Taken = takeLine row (g .folding .st) (part s from behind) in
           let o = onward t (λ st₁. fold stretchOf (linesOf (drop (e + 1) s)) (row + 1) st₁) r cells′ pool′ (line-on row (g .folding .st) (part s from behind) in-line (g .folding .sound)) found k in
-          record { st = o .st; sound = o .sound; stands = o .stands; on = g .folding .on; rows = omega (arith, g .folding .rows, g .begun); whole = line-whole ∙ ap answered (o .is) }
+          record { st = o .st; sound = o .sound; stands = o .stands; rows = omega (arith, g .folding .rows, g .begun); whole = line-whole ∙ ap answered (o .is) }
 
       pub refuses : {f : Fault} {n : ℕ} → r .step ≡ Stop f n → compiled s ≡ answered (refused f n)
       refuses k = line-whole ∙ ap answered (no-further (takeLine row (g .folding .st) (part s from behind)) _ r cells′ pool′ found k)
@@ -200,12 +199,12 @@ pub record Answered (s : List ℕ) (w : Work) (step : Step) (cells pool : List �
   pub none : step ≡ Going → Ended s w cells pool
   pub some : (f : Fault) (n : ℕ) → step ≡ Stop f n → compiled s ≡ answered (refused f n)
 
-pub all-taken : {s : List ℕ} {w : Work} {step step′ : Step} {row from : ℕ} {cells pool cells′ pool′ : List ℕ} → Folding s w step row from cells pool
-    → length s ≤ from → cells′ ≡ cells → pool′ ≡ pool → step′ ≡ step → Answered s w step′ cells′ pool′
-all-taken {step′ = step′} f h a b e =
+pub all-taken : {s : List ℕ} {w : Work} {step : Step} {row from : ℕ} {cells pool cells′ pool′ : List ℕ} → Folding s w row from cells pool
+    → length s ≤ from → cells′ ≡ cells → pool′ ≡ pool → step ≡ Going → Answered s w step cells′ pool′
+all-taken {step = step} f h a b e =
     record {
       none = λ _. record { st = f .st; sound = f .sound; stands = rw (a, b) (f .stands); whole = ended f h };
-      some = λ x n k. absurd (never step′ (e ∙ f .on) k);
+      some = λ x n k. absurd (never step e k);
     }
 
 pub at-fault : {s : List ℕ} {w : Work} {step : Step} {cells pool : List ℕ} (f : Fault) (n : ℕ) → step ≡ Stop f n → compiled s ≡ answered (refused f n)

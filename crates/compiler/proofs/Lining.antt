@@ -1,7 +1,7 @@
 -- A LINE IS TAKEN as the definition takes it: a law for each way on. Assumes nothing.
 use Prim.Native.Nat.{ℕ, _+_, _≤_, _<_}
 use mathlib.Core.Path.{_≡_, refl, sym, ap, _∙_}
-use mathlib.Core.Bool.{Bool, true, false}
+use mathlib.Core.Bool.{true, false}
 use mathlib.Core.List.{List}
 use native.Mathlib.Omega.{arith}
 use lib.ListN.{length}
@@ -21,7 +21,7 @@ use Rattle.language.proofs.Tables.{data-room, data-few}
 use Rattle.compiler.specs.declared.Work.{Work}
 use Rattle.compiler.specs.declared.Step.the-variants.{Stop}
 use Rattle.compiler.specs.declared.Taken as code
-use Rattle.compiler.specs.Stands.{Stands, Took, Within, Ready, Fronts, bytesIn, Steps, commentLine}
+use Rattle.compiler.specs.Stands.{Stands, Took, Within, Ready, bytesIn, Steps, commentLine}
 use Rattle.compiler.proofs.Standing.{Goes, goes}
 use Rattle.compiler.proofs.Stepping.{bytes-told, steps-on}
 

@@ -1,6 +1,6 @@
 -- THE SETTINGS in the heads are those of the draft: a law for each way on. Assumes nothing.
 use Prim.Native.Nat.{ℕ, _+_, _≤_, _<_}
-use mathlib.Core.Path.{_≡_, refl, sym, ap, _∙_}
+use mathlib.Core.Path.{_≡_, refl, ap}
 use mathlib.Core.Bool.{Bool, true}
 use mathlib.Core.List.{List, [], _∷_, _++_}
 use native.Mathlib.Omega.{arith}
@@ -12,14 +12,14 @@ use Rattle.meaning.specs.Line.{lettersFrom}
 use Rattle.language.specs.declared.Heads.{Heads}
 use Rattle.language.specs.declared.Fault.the-variants.{TooManyOmits}
 use Rattle.language.specs.Limits.{omitLimit}
-use Rattle.language.specs.Script.{setEncode, setStopbits, setLfext, byte, Settings}
+use Rattle.language.specs.Script.{setEncode, setStopbits, setLfext, Settings}
 use Rattle.language.specs.Draft as draft
 use Rattle.language.specs.Draft.{Draft, going, withSettings, takeOmit}
 use Rattle.language.specs.Table.{padded, headsOf}
 use Rattle.compiler.specs.declared.Work.{Work}
 use Rattle.compiler.specs.declared.Step.the-variants.{Stop}
 use Rattle.compiler.specs.declared.Taken as code
-use Rattle.compiler.specs.Stands.{scriptIn, Stands, Took, Takes, Fronts}
+use Rattle.compiler.specs.Stands.{Stands, Took, Takes, Fronts}
 use Rattle.compiler.proofs.Padding.{padded-length, put-behind, front-of}
 use Rattle.compiler.proofs.Standing.{Goes, goes}
 

@@ -3,7 +3,6 @@ use Prim.Native.Nat.{ℕ, _≤_}
 use mathlib.Core.Path.{_≡_, refl}
 use mathlib.Core.Bool.{true, _&&_}
 use mathlib.Core.List.{List}
-use native.Mathlib.Omega.{arith}
 use lib.Dec.{ltb, leb}
 use lib.ListN.{length}
 use borrow.Author.Tests.{leb-true}
@@ -14,7 +13,6 @@ use Rattle.language.specs.Script.{Meaning, comment, blank, process, setEx, says
 use Rattle.language.specs.Meaning.{extension, isCapital}
 use Rattle.language.specs.Right.{meaningRight}
 use Rattle.language.specs.Draft as draft
-use Rattle.language.specs.Draft.{Draft}
 use Rattle.compiler.specs.declared.Work.{Work}
 use Rattle.compiler.specs.declared.Taken as code
 use Rattle.compiler.specs.Stands.{Fronts, bytesIn, Into, Steps}

@@ -1,18 +1,16 @@
 -- PLACES IN A TEXT: a part of it, the CR at its end, and the lines of what is left. Assumes nothing.
 use Prim.Native.Nat.{ℕ, suc, _+_, _-_, _≤_, _<_}
 use mathlib.Core.Path.{_≡_, refl, sym, ap, _∙_}
-use mathlib.Core.Bool.{true, false, not}
+use mathlib.Core.Bool.{true, not}
 use mathlib.Core.List.{List, [], _∷_, _++_}
 use native.Mathlib.Numerals.{add-one}
 use native.Mathlib.Omega.{arith}
 use lib.Dec.{eqb}
-use lib.ListN.{length, getD, take, drop, length-drop, take-append-drop, drop-of-length-le}
+use lib.ListN.{length, getD, drop, length-drop, take-append-drop, drop-of-length-le}
 use lib.Seq.{take-suc, getD-drop, length-take-le, drop-drop, drop-cons, take-all}
 use borrow.Author.Tests.{eq-eqb, ne-eqb}
-use Rattle.reader.specs.Bytes.{all}
 use Rattle.reader.proofs.Tests.{all-append, both}
 use Rattle.language.specs.Lines.{dropCr, rawLines, eachLine, linesOf}
-use Rattle.language.specs.Right.{isByte, inLine}
 use Rattle.language.proofs.Bytes.{are-bytes}
 use Rattle.language.proofs.Cutting.{NoLf, Begun, line-ended, line-last, line-begun, cr-last, AllInLine, text-lines}
 use Rattle.compiler.specs.Text.{part}

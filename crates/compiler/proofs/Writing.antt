@@ -22,7 +22,7 @@ use Rattle.compiler.specs.declared.Step.{Step}
 use Rattle.compiler.specs.declared.Step.the-variants.{Going, Stop}
 use Rattle.compiler.specs.declared.Taken as code
 use Rattle.compiler.specs.Cells.{asksOf, countIn, shapeIn, placedAt}
-use Rattle.compiler.specs.Stands.{Stands, Took, withLoops, nestedIn, Nests, Within, Fits, Fronts, Writes}
+use Rattle.compiler.specs.Stands.{Stands, Took, withLoops, nestedIn, Nests, Within, Fits, Writes}
 use Rattle.compiler.proofs.Padding.{padded-length, put-behind, set-behind, set-last, front-of}
 use Rattle.compiler.proofs.Bodies.{pool-does, words-does, Ends, ends-does}
 use Rattle.compiler.proofs.Standing.{Goes, goes, headsWith, heads-with}

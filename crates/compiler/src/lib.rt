@@ -6,7 +6,7 @@ ghost use lib.ListN.{length};
 ghost use Rattle.reader.specs.Bytes.{all};
 ghost use Rattle.language.specs.Answer.{answered, compiled};
 ghost use Rattle.language.specs.Draft.{Draft, refused, finished, takeLine};
-ghost use Rattle.language.specs.Limits.{loopLimit};
+ghost use Rattle.language.specs.Limits.{textLimit, loopLimit};
 ghost use Rattle.language.specs.Lines.{dropCr};
 ghost use Rattle.language.specs.Right.{inLine};
 ghost use Rattle.language.specs.Stretch.{stretchOf};
@@ -19,6 +19,7 @@ use language::Compiled;
 use language::DATA;
 use language::Fault;
 use language::Heads;
+use language::LINE;
 use language::LINES;
 use language::LOOPS;
 use language::OMITS;
@@ -35,9 +36,6 @@ use stretch::largest;
 
 mod cells;
 mod steps;
-
-// "At most 127 per line".
-const LINE: usize = 127;
 
 // The script under construction, as far as it does not stand in the cells and the pool.
 struct Work {
@@ -75,7 +73,7 @@ enum Asks {
     Plain,
 }
 
-// "At most 512 lines besides comments".
+// Whether a line is a comment, which is not counted: "At most 512 lines besides comments".
 fn is_comment(line: Line) -> bool
     ensures { λ r. ⌜ r ≡ commentLine line ⌝ }
 {
@@ -191,7 +189,8 @@ fn finish(cells: &Cells, pool: &Pool, work: Work) -> Compiled
     let opened = work.opened as usize;
     if 0 < opened {
         let loops = work.loops;
-        return refusal(Fault::LoopLeftOpen, loops[opened - 1]);
+        let innermost = loops[opened - 1];
+        return refusal(Fault::LoopLeftOpen, innermost);
     }
     let heads = work.heads;
     match largest(cells, heads) {
@@ -210,13 +209,11 @@ fn finish(cells: &Cells, pool: &Pool, work: Work) -> Compiled
     }
 }
 
-/// The table of a script, with the largest stretch of any process; or the first fault, with the line that it names.
-pub fn compile(text: &[u8]) -> Compiled
+// The lines one after the other, byte by byte to each one's end; the first fault ends both loops.
+fn take_lines(text: &[u8]) -> Compiled
+    requires { ⌜ length (now text) ≤ textLimit ⌝ }
     ensures { λ r. ⌜ r ≡ compiled (now (text .entry)) ⌝ }
 {
-    if TEXT < text.len() {
-        return refusal(Fault::TextTooLong, 0);
-    }
     let mut cells = [0u32; LINES];
     let mut pool = [0u8; DATA];
     let mut lent = [0u8; ROOM];
@@ -237,29 +234,30 @@ pub fn compile(text: &[u8]) -> Compiled
             end += 1;
         }
         let behind = without_cr(text, start, end);
-        let taken = take_line(
-            &text[start..behind],
-            row,
-            work,
-            &mut lent,
-            &mut cells,
-            &mut pool,
-        );
-        let found = taken.step;
-        match found {
+        let line = &text[start..behind];
+        let taken = take_line(line, row, work, &mut lent, &mut cells, &mut pool);
+        step = taken.step;
+        match step {
             Step::Going => {
                 work = taken.work;
                 row += 1;
                 start = end + 1;
             }
-            Step::Stop(fault, line) => {
-                step = Step::Stop(fault, line);
-                break 'lines;
-            }
+            Step::Stop(_, _) => break 'lines,
         }
     }
     match step {
         Step::Going => finish(&cells, &pool, work),
         Step::Stop(fault, line) => refusal(fault, line),
     }
+}
+
+/// The table of a script, with the largest stretch of any process; or the first fault, with the line that it names.
+pub fn compile(text: &[u8]) -> Compiled
+    ensures { λ r. ⌜ r ≡ compiled (now (text .entry)) ⌝ }
+{
+    if TEXT < text.len() {
+        return refusal(Fault::TextTooLong, 0);
+    }
+    take_lines(text)
 }

@@ -166,7 +166,8 @@ fn take_process(row: u32, work: Work) -> Taken
     let opened = work.opened as usize;
     if 0 < opened {
         let loops = work.loops;
-        return stop(Fault::LoopLeftOpen, loops[opened - 1], work);
+        let innermost = loops[opened - 1];
+        return stop(Fault::LoopLeftOpen, innermost, work);
     }
     if work.begun {
         return next_process(row, work);
@@ -176,7 +177,7 @@ fn take_process(row: u32, work: Work) -> Taken
     going(next)
 }
 
-// The work with other settings.
+// The work with other settings in its heads.
 fn set(heads: Heads, work: Work) -> Taken
     ensures { λ r. ⌜ ((st : Draft) (s : Settings) (cells pool : List ℕ) → heads ≡ headsOf (record { settings = s; body = st .body }) → Stands st work cells pool → Took (going (withSettings st s)) r cells pool) ⌝ }
 {
@@ -204,7 +205,7 @@ fn take_omit(size: u8, lent: &Data, row: u32, work: Work) -> Taken
     set(heads, work)
 }
 
-// ENCODE.
+// ENCODE: the last one holds.
 fn take_encode(byte: u8, work: Work) -> Taken
     ensures { λ r. ⌜ ((row : ℕ) → Takes (λ st. take row st (setEncode byte)) work r) ⌝ }
 {
@@ -214,7 +215,7 @@ fn take_encode(byte: u8, work: Work) -> Taken
     set(heads, work)
 }
 
-// STOPBITS.
+// STOPBITS: the last one holds.
 fn take_stopbits(two: bool, work: Work) -> Taken
     ensures { λ r. ⌜ ((row : ℕ) → Takes (λ st. take row st (setStopbits two)) work r) ⌝ }
 {
@@ -223,7 +224,7 @@ fn take_stopbits(two: bool, work: Work) -> Taken
     set(heads, work)
 }
 
-// LFEXT.
+// LFEXT: the last one holds.
 fn take_lfext(letters: Letters, work: Work) -> Taken
     ensures { λ r. ⌜ ((row : ℕ) (l : List ℕ) → length l ≤ 3 → letters ≡ lettersFrom l → Takes (λ st. take row st (setLfext l)) work r) ⌝ }
 {

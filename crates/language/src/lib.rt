@@ -3,6 +3,9 @@
 // "Text 65,536 bytes": the longest text.
 pub const TEXT: usize = 65536;
 
+// "At most 127 per line, comments too".
+pub const LINE: usize = 127;
+
 // "At most 512 lines besides comments": as many cells has a table.
 pub const LINES: usize = 512;
 

@@ -1,198 +1,21 @@
--- `compile` meets its contract: each turn of its two loops is a law on their states, `Folding` and `Scanning`. Assumes nothing.
-use Prim.Native.Nat.{ℕ, _-_, _<_}
+-- `compile` meets its contract: a text that is too long is refused before any line is taken. Assumes nothing.
 use mathlib.Core.Path.{sym, _∙_}
-use mathlib.Core.Logic.{⊎-elim}
-use native.Mathlib.Omega.{arith}
 use borrow.Author.Needs.{needs}
-use denote.Ref.{now}
-use lib.ListN.{length, getD}
-use Rattle.compiler.proofs.Folding.{Folding, Scanning, Lined, too-long, first, ready, opened, ended, passed, at-feed, at-end, overlong, in-line, goes-on, refuses, Answered, all-taken, at-fault}
+use Rattle.compiler.proofs.Folding.{too-long}
 use Rattle.compiler.proofs.compile.Statement.{statement}
 use Rattle.compiler.proofs.compile.Tie as tie
 
-abbrev Inv-loop : tie.InvT-loop
-Inv-loop text cells pool lent work step₀ row start end₀ step end = Scanning text work step row start cells pool end
-
-abbrev μ-loop : tie.MeasureT-loop
-μ-loop text cells pool lent work step₀ row start end₀ step end = length text - end
-
-abbrev Inv-lines : tie.InvT-lines
-Inv-lines text cells₀ pool₀ lent₀ work₀ step₀ row₀ start₀ cells pool lent work step row start = Folding text work step row start cells pool
-
-abbrev μ-lines : tie.MeasureT-lines
-μ-lines text cells₀ pool₀ lent₀ work₀ step₀ row₀ start₀ cells pool lent work step row start = length text - start
-
-refusal-requires : tie.Need-refusal-requires Inv-loop μ-loop Inv-lines μ-lines
+refusal-requires : tie.Need-refusal-requires
 refusal-requires c κs = search needs
 
-returns : tie.Need-returns Inv-loop μ-loop Inv-lines μ-lines
+returns : tie.Need-returns
 returns c = c .refusal .ensures ∙ sym (too-long _ (c .before .if1 .taken))
 
-no-lines-requires : tie.Need-no-lines-requires Inv-loop μ-loop Inv-lines μ-lines
-no-lines-requires c κs = search needs
+take-lines-requires : tie.Need-take-lines-requires
+take-lines-requires c κs = search needs
 
-lines-holds : tie.Need-lines-holds Inv-loop μ-loop Inv-lines μ-lines
-lines-holds c = rw (c .no-lines .ensures) (first _ (c .before .if1 .left))
-
-loop-holds : tie.Need-loop-holds Inv-loop μ-loop Inv-lines μ-lines
-loop-holds c = opened (c .before .lines .inv) (omega arith)
-
-shared-slice-read-if2 : tie.Need-shared-slice-read-if2 Inv-loop μ-loop Inv-lines μ-lines
-shared-slice-read-if2 c = omega arith
-
-sub-if3 : tie.Need-sub-if3 Inv-loop μ-loop Inv-lines μ-lines
-sub-if3 c = omega (arith, c .before .before .before .loop .inv .begun)
-
-add-end : tie.Need-add-end Inv-loop μ-loop Inv-lines μ-lines
-add-end c = omega arith
-
-loop-less : tie.Need-loop-less Inv-loop μ-loop Inv-lines μ-lines
-loop-less c = omega arith
-
-loop-again : tie.Need-loop-again Inv-loop μ-loop Inv-lines μ-lines
-loop-again c = passed (c .before .before .before .before .loop .inv) (omega arith) (c .before .if2 .left)
-
--- where the loop over the bytes has been left, at an LF or at the end of the text
-lined : (c : tie.Left-loop Inv-loop μ-loop Inv-lines μ-lines)
-    → Lined
-    (now (c .before .before .before .before .before .before .before .args .text))
-    (c .before .before .before .lines .work)
-    (c .before .loop .step)
-    (c .before .before .before .lines .row)
-    (c .before .before .before .lines .start)
-    (c .before .before .before .lines .cells)
-    (c .before .before .before .lines .pool)
-    (c .before .loop .end)
-lined c =
-    let g = c .before .loop .inv in
-    ⊎-elim (λ a. at-end g (a .left)) (λ a. at-feed g (a .0 .taken) (a .2 .taken)) (c .loop-test .came)
-
--- a text is of bytes
-bytes : (c : tie.Left-loop Inv-loop μ-loop Inv-lines μ-lines) (i : ℕ) → getD (now (c .before .before .before .before .before .before .before .args .text)) i 0 < 256
-bytes c i = omega (arith, c .before .before .before .before .before .before .shared-slice-known .given i)
-
-without-cr-requires : tie.Need-without-cr-requires Inv-loop μ-loop Inv-lines μ-lines
-without-cr-requires c κs =
-    let g = lined c in
-    (g .begun, g .upto)
-
-sub-take-line : tie.Need-sub-take-line Inv-loop μ-loop Inv-lines μ-lines
-sub-take-line c = omega arith
-
-part-take-line-start : tie.Need-part-take-line-start Inv-loop μ-loop Inv-lines μ-lines
-part-take-line-start c = omega arith
-
-part-take-line-end : tie.Need-part-take-line-end Inv-loop μ-loop Inv-lines μ-lines
-part-take-line-end c =
-    let g = lined (c .before) in
-    omega arith
-
-take-line-requires : tie.Need-take-line-requires Inv-loop μ-loop Inv-lines μ-lines
-take-line-requires c κs =
-    let p = c .before .before .before .before in
-    (ready (lined (p .before) .folding), in-line _ (lined (p .before)) (bytes (p .before)) (p .without-cr .ensures .2))
-
-enum-told : tie.Need-enum-told Inv-loop μ-loop Inv-lines μ-lines
-enum-told c = search needs
-
-add-row : tie.Need-add-row Inv-loop μ-loop Inv-lines μ-lines
-add-row c =
-    let g = lined (c .before .before .before .before .before .before .before .before .before) in
-    omega (arith, g .folding .rows, g .begun, g .upto)
-
-add-start : tie.Need-add-start Inv-loop μ-loop Inv-lines μ-lines
-add-start c =
-    let g = lined (c .before .before .before .before .before .before .before .before .before) in
-    omega (arith, g .upto)
-
-lines-less : tie.Need-lines-less Inv-loop μ-loop Inv-lines μ-lines
-lines-less c =
-    let l = c .before .before .before .before .before .before .before .before .before in
-    let g = lined l in
-    omega (arith, l .before .before .lines-test .taken, g .begun)
-
-lines-again : tie.Need-lines-again Inv-loop μ-loop Inv-lines μ-lines
-lines-again c =
-    let t = c .before .before .before in
-    let p = t .before .before .before .before .before in
-    goes-on _ (lined (p .before)) (bytes (p .before)) (p .without-cr .ensures .2) _ _ _ (t .take-line .ensures) (c .before .enum-told .given .1)
-
-enum-known-found : tie.Need-enum-known-found Inv-loop μ-loop Inv-lines μ-lines
-enum-known-found c = search needs
-
-enum-told-2 : tie.Need-enum-told-2 Inv-loop μ-loop Inv-lines μ-lines
-enum-told-2 c = search needs
-
-finish-requires : tie.Need-finish-requires Inv-loop μ-loop Inv-lines μ-lines
-finish-requires c κs = ready (c .before .before .before .before .before .lines .inv) .deep
-
-enum-known-step : tie.Need-enum-known-step Inv-loop μ-loop Inv-lines μ-lines
-enum-known-step c = search needs
-
-refusal-requires-2 : tie.Need-refusal-requires-2 Inv-loop μ-loop Inv-lines μ-lines
-refusal-requires-2 c κs = search needs
-
--- where the loop over the lines has been left: after the last line, inside a line that is too long, at a line's fault
-left : (c : tie.Left-lines Inv-loop μ-loop Inv-lines μ-lines)
-    → Answered
-    (now (c .before .before .before .before .before .args .text))
-    (c .before .lines .work)
-    (c .lines-test .step)
-    (c .lines-test .cells)
-    (c .lines-test .pool)
-left c =
-    ⊎-elim
-    (λ w. all-taken (c .before .lines .inv) (w .0 .left) (w .1) (w .2) (w .3))
-    (λ x. ⊎-elim
-    (λ w. at-fault _ _ (w .8) (overlong (w .1 .inv) (w .2 .taken) (w .4 .left) (w .5 .taken)))
-    (λ w.
-    let l : tie.Left-loop Inv-loop μ-loop Inv-lines μ-lines =
-    record { before = record { before = record { before = c .before; lines-test = w .0 }; loop = w .1 }; loop-test = w .2 }
-    in
-    at-fault _ _ (w .14) (refuses _ (lined l) (bytes l) (w .3 .ensures .2) _ _ _ (w .8 .ensures) (w .10 .given .1)))
-    x)
-    (c .lines-test .came)
-
-returns-2 : tie.Need-returns-2 Inv-loop μ-loop Inv-lines μ-lines
-returns-2 c =
-    let e = left (c .before .before .before .before .before) .none (c .before .before .before .enum-told2 .given .1) in
-    c .finish .ensures (e .st) (e .sound) (e .stands) ∙ sym (e .whole)
-
-returns-3 : tie.Need-returns-3 Inv-loop μ-loop Inv-lines μ-lines
-returns-3 c = c .refusal2 .ensures ∙ sym (left (c .before .before .before .before) .some _ _ (c .before .before .step .given .1))
+returns-2 : tie.Need-returns-2
+returns-2 c = search needs
 
 pub compile-spec : {M : Type 1} → statement M
-compile-spec =
-    tie.close
-    (tie.spec
-    Inv-loop
-    μ-loop
-    Inv-lines
-    μ-lines
-    refusal-requires
-    returns
-    no-lines-requires
-    lines-holds
-    loop-holds
-    shared-slice-read-if2
-    sub-if3
-    add-end
-    loop-less
-    loop-again
-    without-cr-requires
-    sub-take-line
-    part-take-line-start
-    part-take-line-end
-    take-line-requires
-    enum-told
-    add-row
-    add-start
-    lines-less
-    lines-again
-    enum-known-found
-    enum-told-2
-    finish-requires
-    enum-known-step
-    refusal-requires-2
-    returns-2
-    returns-3)
+compile-spec = tie.close (tie.spec refusal-requires returns take-lines-requires returns-2)

@@ -8,14 +8,14 @@ use Rattle.compiler.proofs.finish.Tie as tie
 cast-opened : tie.Need-cast-opened
 cast-opened c = search needs
 
-sub-refusal : tie.Need-sub-refusal
-sub-refusal c = search needs
+sub-innermost : tie.Need-sub-innermost
+sub-innermost c = search needs
 
-mul-refusal : tie.Need-mul-refusal
-mul-refusal c = search needs
+mul-innermost : tie.Need-mul-innermost
+mul-innermost c = search needs
 
-array-read-refusal : tie.Need-array-read-refusal
-array-read-refusal c = search needs
+array-read-innermost : tie.Need-array-read-innermost
+array-read-innermost c = search needs
 
 refusal-requires : tie.Need-refusal-requires
 refusal-requires c κs = search needs
@@ -55,9 +55,9 @@ finish-spec =
     tie.close
     (tie.spec
     cast-opened
-    sub-refusal
-    mul-refusal
-    array-read-refusal
+    sub-innermost
+    mul-innermost
+    array-read-innermost
     refusal-requires
     returns
     largest-requires

@@ -7,14 +7,14 @@ use Rattle.compiler.proofs.steps.take_process.Tie as tie
 cast-opened : tie.Need-cast-opened
 cast-opened c = search needs
 
-sub-stop : tie.Need-sub-stop
-sub-stop c = search needs
+sub-innermost : tie.Need-sub-innermost
+sub-innermost c = search needs
 
-mul-stop : tie.Need-mul-stop
-mul-stop c = search needs
+mul-innermost : tie.Need-mul-innermost
+mul-innermost c = search needs
 
-array-read-stop : tie.Need-array-read-stop
-array-read-stop c = search needs
+array-read-innermost : tie.Need-array-read-innermost
+array-read-innermost c = search needs
 
 stop-requires : tie.Need-stop-requires
 stop-requires c κs = search needs
@@ -39,9 +39,9 @@ take-process-spec =
     tie.close
     (tie.spec
     cast-opened
-    sub-stop
-    mul-stop
-    array-read-stop
+    sub-innermost
+    mul-innermost
+    array-read-innermost
     stop-requires
     returns
     next-process-requires
