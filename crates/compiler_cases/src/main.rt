@@ -2,6 +2,7 @@
 use compiler::compile;
 use language::Answer;
 use language::Fault;
+use language::Heads;
 use language::Table;
 use libc::STDOUT_FILENO;
 
@@ -31,28 +32,37 @@ fn number(fault: Fault) -> u64 {
     }
 }
 
-// The parts of a table that tell one short script from another.
-fn say_table(table: Table) {
-    let cells = table.cells;
-    let heads = table.heads;
+fn say_word(name: &[u8], n: u32) {
+    say(name);
+    say_number(n as u64);
+}
+
+fn say_short(name: &[u8], n: u16) {
+    say(name);
+    say_number(n as u64);
+}
+
+fn say_byte(name: &[u8], n: u8) {
+    say(name);
+    say_number(n as u64);
+}
+
+// The first three cells.
+fn say_cells(a: u32, b: u32, c: u32) {
+    say_word(b", cells ", a);
+    say_word(b" ", b);
+    say_word(b" ", c);
+}
+
+// What the heads have.
+fn say_heads(heads: Heads) {
     let omit = heads.omit;
-    say(b", cells ");
-    say_number(cells[0] as u64);
-    say(b" ");
-    say_number(cells[1] as u64);
-    say(b" ");
-    say_number(cells[2] as u64);
-    say(b", processes ");
-    say_number(heads.processes as u64);
-    say(b", data ");
-    say_number(heads.used as u64);
-    say(b", encode ");
-    say_number(heads.encode as u64);
-    say(b", omit ");
-    say_number(heads.omits as u64);
-    say(b" ");
-    say_number(omit[0] as u64);
     let extension = heads.extension;
+    say_byte(b", processes ", heads.processes);
+    say_short(b", data ", heads.used);
+    say_byte(b", encode ", heads.encode);
+    say_byte(b", omit ", heads.omits);
+    say_byte(b" ", omit[0]);
     say(b", extension ");
     say(&extension);
     if heads.two_stop_bits {
@@ -61,21 +71,27 @@ fn say_table(table: Table) {
     say(b"\n");
 }
 
+// The parts of a table that tell one short script from another.
+fn say_table(table: Table) {
+    let cells = table.cells;
+    say_cells(cells[0], cells[1], cells[2]);
+    say_heads(table.heads);
+}
+
 // What is asked, in words or as it is written, and what comes back.
 fn case(name: &[u8], text: &[u8]) {
     say(name);
     let compiled = compile(text);
-    match compiled.answer {
+    let answer = compiled.answer;
+    match answer {
         Answer::Accepted(stretch) => {
-            say(b": stretch ");
-            say_number(stretch as u64);
+            say_word(b": stretch ", stretch);
             say_table(compiled.table);
         }
         Answer::Refused(fault, line) => {
             say(b": refused ");
             say_number(number(fault));
-            say(b" at ");
-            say_number(line as u64);
+            say_word(b" at ", line);
             say(b"\n");
         }
     }
