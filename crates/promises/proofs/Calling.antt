@@ -21,20 +21,20 @@ use Rattle.language.specs.Cell.{level}
 use Rattle.stretch.specs.Marks.{begins, stops}
 use Rattle.stretch.specs.Scan.{marksTo}
 use Rattle.stretch.proofs.Marking.{marks-length}
-use Rattle.runner.specs.declared.Reading.{Reading}
-use Rattle.runner.specs.declared.Process.{Process}
-use Rattle.runner.specs.declared.State.{State}
-use Rattle.runner.specs.declared.Refusal.{Refusal}
-use Rattle.runner.specs.declared.Refusal.the-variants.{Busy, BadReading, NoSuchSignal, SmallBuffer}
-use Rattle.runner.specs.declared.Received.the-variants as received
+use Rattle.process.specs.declared.Reading.{Reading}
+use Rattle.process.specs.declared.Process.{Process}
+use Rattle.process.specs.declared.State.{State}
+use Rattle.process.specs.declared.Refusal.{Refusal}
+use Rattle.process.specs.declared.Refusal.the-variants.{Busy, BadReading, NoSuchSignal, SmallBuffer}
+use Rattle.process.specs.declared.Received.the-variants as received
 use Rattle.runner.specs.declared.Outcome.the-variants.{Quiet, Refused}
-use Rattle.runner.specs.declared.Event.{Event}
-use Rattle.runner.specs.declared.ByteEvent.{ByteEvent}
+use Rattle.process.specs.declared.Event.{Event}
+use Rattle.process.specs.declared.ByteEvent.{ByteEvent}
 use Rattle.runner.specs.declared.Drained.{Drained}
-use Rattle.runner.specs.Waiting.{ticked, byteTaken, readingTaken, levelTaken}
-use Rattle.runner.specs.Recording.{copies}
-use Rattle.runner.specs.Events.{refusalNumber, every, busy, refused, took, withProcesses, tickEvent, readingRight, readingEvent, levelEvent, rangesRight, byteEvent}
-use Rattle.runner.specs.Moving.{moved, cellAt}
+use Rattle.process.specs.Waiting.{ticked, byteTaken, readingTaken, levelTaken}
+use Rattle.process.specs.Recording.{copies}
+use Rattle.process.specs.Events.{refusalNumber, every, busy, refused, took, withProcesses, tickEvent, readingRight, readingEvent, levelEvent, rangesRight, byteEvent}
+use Rattle.process.specs.Moving.{moved, cellAt}
 use Rattle.runner.specs.Draining.{lowest, nobody, turn, outcomeOf, writes, stateAfter, unaltered, drained}
 use Rattle.runner.specs.Starting.{startAt, started, startState, noCounts}
 use Rattle.runner.specs.Calls as calls

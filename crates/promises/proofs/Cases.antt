@@ -14,13 +14,13 @@ use Rattle.language.specs.Table as table
 use Rattle.language.specs.Answer.{answered, compiled}
 use Rattle.language.proofs.Opened.{printed}
 use Rattle.accepted.specs.Accepted.{tableRight}
-use Rattle.runner.specs.declared.Taken.the-variants as taken
-use Rattle.runner.specs.Matching as matching
-use Rattle.runner.specs.Waiting as waiting
-use Rattle.runner.specs.Recording as recording
-use Rattle.runner.specs.Events as events
-use Rattle.runner.specs.Moving as moving
-use Rattle.runner.specs.Logging as logging
+use Rattle.process.specs.declared.Taken.the-variants as taken
+use Rattle.process.specs.Matching as matching
+use Rattle.process.specs.Waiting as waiting
+use Rattle.process.specs.Recording as recording
+use Rattle.process.specs.Events as events
+use Rattle.process.specs.Moving as moving
+use Rattle.record.specs.Logging as logging
 use Rattle.runner.specs.Draining as draining
 use Rattle.runner.specs.Starting as starting
 use Rattle.runner.specs.Starting.{startState, noCounts}

@@ -11,17 +11,17 @@ use Rattle.reader.proofs.Tests.{by-cases}
 use Rattle.language.specs.declared.Table.{Table}
 use Rattle.language.specs.Limits.{processLimit}
 use Rattle.accepted.specs.Accepted.{tableRight}
-use Rattle.runner.specs.declared.State.{State}
-use Rattle.runner.specs.declared.Refusal.{Refusal}
-use Rattle.runner.specs.declared.Refusal.the-variants.{Busy, BadReading, NoSuchSignal, SmallBuffer, BadTable}
-use Rattle.runner.specs.declared.Taken.the-variants as taken
-use Rattle.runner.specs.declared.Received.the-variants as received
+use Rattle.process.specs.declared.State.{State}
+use Rattle.process.specs.declared.Refusal.{Refusal}
+use Rattle.process.specs.declared.Refusal.the-variants.{Busy, BadReading, NoSuchSignal, SmallBuffer, BadTable}
+use Rattle.process.specs.declared.Taken.the-variants as taken
+use Rattle.process.specs.declared.Received.the-variants as received
 use Rattle.runner.specs.declared.Outcome.the-variants.{Quiet, Sent, Recorded, Rts, Fchange, Pause, Resume, Plain, Refused}
-use Rattle.runner.specs.declared.Event.{Event}
-use Rattle.runner.specs.declared.ByteEvent.{ByteEvent}
+use Rattle.process.specs.declared.Event.{Event}
+use Rattle.process.specs.declared.ByteEvent.{ByteEvent}
 use Rattle.runner.specs.declared.Drained.{Drained}
-use Rattle.runner.specs.Events.{refusalNumber, busy, refused, took, tickEvent, readingRight, readingEvent, levelEvent, rangesRight, byteEvent}
-use Rattle.runner.specs.Moving.{moved, cellAt}
+use Rattle.process.specs.Events.{refusalNumber, busy, refused, took, tickEvent, readingRight, readingEvent, levelEvent, rangesRight, byteEvent}
+use Rattle.process.specs.Moving.{moved, cellAt}
 use Rattle.runner.specs.Draining.{lowest, turn, outcomeOf, does, writes, stateAfter, unaltered, drained, bufferAfter, countsAfter}
 use Rattle.runner.specs.Calls as calls
 use Rattle.runner.specs.Calls.{Box, Call, start, tick, byte, reading, drain, Reply, event, outcome, Called, boxed, startCall}

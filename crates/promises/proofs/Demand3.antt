@@ -9,10 +9,10 @@ use borrow.Author.Tests.{le-ltb}
 use Rattle.language.specs.declared.Table.{Table}
 use Rattle.stretch.specs.Scan.{marksTo}
 use Rattle.stretch.proofs.Marking.{marks-length}
-use Rattle.runner.specs.declared.Wait.{Wait}
-use Rattle.runner.specs.declared.Wait.the-variants.{Ready, Over, Ticks, Bytes, Data, ClockValue, Signal}
-use Rattle.runner.specs.declared.Process.{Process}
-use Rattle.runner.specs.Waiting.{readyWait}
+use Rattle.process.specs.declared.Wait.{Wait}
+use Rattle.process.specs.declared.Wait.the-variants.{Ready, Over, Ticks, Bytes, Data, ClockValue, Signal}
+use Rattle.process.specs.declared.Process.{Process}
+use Rattle.process.specs.Waiting.{readyWait}
 use Rattle.runner.specs.Draining.{nobody}
 use Rattle.runner.specs.Calls as calls
 use Rattle.runner.specs.Calls.{Box, Call, startCall}

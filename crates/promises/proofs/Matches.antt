@@ -12,7 +12,7 @@ use lib.ListN.{length, take, length-append, length-take, length-drop, take-appen
 use lib.Seq.{drop-append-le, take-at, drop-append-add, take-length, take-take}
 use Rattle.reader.specs.Bytes.{same}
 use Rattle.reader.proofs.Same.{same-is, is-same}
-use Rattle.runner.specs.Matching.{last, longest, progress, recent, advance}
+use Rattle.process.specs.Matching.{last, longest, progress, recent, advance}
 use Rattle.promises.specs.Waits.{EndsIn}
 
 -- the first j bytes of d are the last j of xs

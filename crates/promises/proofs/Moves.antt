@@ -28,11 +28,11 @@ use Rattle.stretch.specs.Scan.{marksTo}
 use Rattle.stretch.proofs.Marking.{marks-between, marks-length}
 use Rattle.accepted.specs.Tests as tests
 use Rattle.accepted.specs.Tests.{follows, cellFits, wordsFit, wordsEnd}
-use Rattle.runner.specs.declared.Wait.{Wait}
-use Rattle.runner.specs.declared.Wait.the-variants.{Ticks, Bytes, Data, ClockValue, Signal}
-use Rattle.runner.specs.declared.Process.{Process}
-use Rattle.runner.specs.Waiting.{ready, waitRight, progressRight, sameLevel}
-use Rattle.runner.specs.Moving.{passes, rests, neighbours, theirBytes, awaits, restsUnless, signalled, behind, movedBy, moved}
+use Rattle.process.specs.declared.Wait.{Wait}
+use Rattle.process.specs.declared.Wait.the-variants.{Ticks, Bytes, Data, ClockValue, Signal}
+use Rattle.process.specs.declared.Process.{Process}
+use Rattle.process.specs.Waiting.{ready, waitRight, progressRight, sameLevel}
+use Rattle.process.specs.Moving.{passes, rests, neighbours, theirBytes, awaits, restsUnless, signalled, behind, movedBy, moved}
 use Rattle.promises.proofs.Ahead.{Open, onward, ahead}
 use Rattle.promises.proofs.Stands.{Sits, resting, Held, Good}
 use Rattle.promises.proofs.Ways.{rests-good}

@@ -9,12 +9,12 @@ use borrow.Author.Tests.{ltb-true, lt-ltb}
 use Rattle.reader.proofs.Tests.{true-is-false}
 use Rattle.language.specs.declared.Table.{Table}
 use Rattle.language.specs.Limits.{processLimit}
-use Rattle.runner.specs.declared.State.{State}
-use Rattle.runner.specs.declared.Refusal.the-variants.{SmallBuffer, BadTable}
+use Rattle.process.specs.declared.State.{State}
+use Rattle.process.specs.declared.Refusal.the-variants.{SmallBuffer, BadTable}
 use Rattle.runner.specs.declared.Outcome.the-variants.{Quiet, Refused}
 use Rattle.runner.specs.declared.Drained.{Drained}
-use Rattle.runner.specs.Events.{busy}
-use Rattle.runner.specs.Moving.{moved, cellAt}
+use Rattle.process.specs.Events.{busy}
+use Rattle.process.specs.Moving.{moved, cellAt}
 use Rattle.runner.specs.Draining.{lowest, turn, does, writes, unaltered, drained}
 use Rattle.runner.specs.Calls as calls
 use Rattle.runner.specs.Calls.{Box, drain, outcome}

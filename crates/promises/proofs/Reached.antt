@@ -13,8 +13,8 @@ use Rattle.language.specs.Right.{timeRight}
 use Rattle.language.specs.Answer.{answered, compiled}
 use Rattle.language.proofs.Opened.{printed}
 use Rattle.accepted.specs.Accepted.{tableRight}
-use Rattle.runner.specs.Waiting.{awake}
-use Rattle.runner.specs.Moving.{restsUnless, movedBy, moved}
+use Rattle.process.specs.Waiting.{awake}
+use Rattle.process.specs.Moving.{restsUnless, movedBy, moved}
 use Rattle.runner.specs.Draining.{lowest, outcomeOf, drained, stateAfter}
 use Rattle.runner.specs.Starting.{started, startedFrom, startState, noCounts}
 use Rattle.runner.specs.Calls as calls

@@ -11,9 +11,9 @@ use lib.ListN.{length, getD, List·getD-map}
 use borrow.Author.Tests.{lt-ltb, le-ltb}
 use Rattle.reader.proofs.Tests.{both}
 use Rattle.language.specs.declared.Heads.{Heads}
-use Rattle.runner.specs.declared.Process.{Process}
-use Rattle.runner.specs.Waiting.{ready, rangeRight}
-use Rattle.runner.specs.Events.{any, every}
+use Rattle.process.specs.declared.Process.{Process}
+use Rattle.process.specs.Waiting.{ready, rangeRight}
+use Rattle.process.specs.Events.{any, every}
 use Rattle.runner.specs.Draining.{lowest, nobody}
 use Rattle.runner.specs.Starting.{started, startedFrom}
 

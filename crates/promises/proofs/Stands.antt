@@ -9,11 +9,11 @@ use Rattle.figures.specs.Flat.{Mark, beyond, deepest, nests}
 use Rattle.figures.specs.Scan.{readAt}
 use Rattle.figures.specs.Written.{run}
 use Rattle.language.specs.Limits.{loopLimit}
-use Rattle.runner.specs.declared.Wait.{Wait}
-use Rattle.runner.specs.declared.Wait.the-variants.{Ready, Over, Ticks, Bytes, Data, ClockValue, Signal}
-use Rattle.runner.specs.declared.Process.{Process}
-use Rattle.runner.specs.declared.Moved.{Moved}
-use Rattle.runner.specs.Waiting.{readyWait, waitRight}
+use Rattle.process.specs.declared.Wait.{Wait}
+use Rattle.process.specs.declared.Wait.the-variants.{Ready, Over, Ticks, Bytes, Data, ClockValue, Signal}
+use Rattle.process.specs.declared.Process.{Process}
+use Rattle.process.specs.declared.Moved.{Moved}
+use Rattle.process.specs.Waiting.{readyWait, waitRight}
 use Rattle.promises.proofs.Ahead.{Open, opensOf, ahead}
 
 -- An open loop whose body begins at b, with d loops around it: behind its body the same is read as behind the fragment that the place stands in,

@@ -17,10 +17,10 @@ use Rattle.figures.specs.Written.{times, repeated, written, run}
 use Rattle.figures.proofs.Growing.{run-at-least}
 use Rattle.figures.proofs.Scanning.{stands-inside, read-mark}
 use Rattle.language.specs.Limits.{loopLimit}
-use Rattle.runner.specs.declared.Wait.{Wait}
-use Rattle.runner.specs.declared.Process.{Process}
-use Rattle.runner.specs.Waiting.{readyWait, ready, waitRight}
-use Rattle.runner.specs.Moving.{passes, rests, opened, pass, closed}
+use Rattle.process.specs.declared.Wait.{Wait}
+use Rattle.process.specs.declared.Process.{Process}
+use Rattle.process.specs.Waiting.{readyWait, ready, waitRight}
+use Rattle.process.specs.Moving.{passes, rests, opened, pass, closed}
 use Rattle.promises.proofs.Ahead.{Open, opensOf, more, whole, onward, ahead, run-less}
 use Rattle.promises.proofs.Stands.{Back, Kept, Sits, resting, Held, Good}
 use Rattle.promises.proofs.Opens.{opens-length, opens-more, opens-less}

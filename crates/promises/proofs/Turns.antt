@@ -12,19 +12,19 @@ use Rattle.reader.proofs.Tests.{true-is-false, by-cases}
 use Rattle.language.specs.declared.Heads.{Heads}
 use Rattle.language.specs.declared.Table.{Table}
 use Rattle.language.specs.Limits.{processLimit}
-use Rattle.runner.specs.declared.Process.{Process}
-use Rattle.runner.specs.declared.State.{State}
-use Rattle.runner.specs.declared.Copies.{Copies}
-use Rattle.runner.specs.declared.Refusal.{Refusal}
-use Rattle.runner.specs.declared.Refusal.the-variants.{Busy, BadReading, NoSuchSignal, SmallBuffer, BadTable}
-use Rattle.runner.specs.declared.Received.the-variants as received
+use Rattle.process.specs.declared.Process.{Process}
+use Rattle.process.specs.declared.State.{State}
+use Rattle.process.specs.declared.Copies.{Copies}
+use Rattle.process.specs.declared.Refusal.{Refusal}
+use Rattle.process.specs.declared.Refusal.the-variants.{Busy, BadReading, NoSuchSignal, SmallBuffer, BadTable}
+use Rattle.process.specs.declared.Received.the-variants as received
 use Rattle.runner.specs.declared.Outcome.the-variants.{Quiet, Refused}
-use Rattle.runner.specs.declared.Event.{Event}
-use Rattle.runner.specs.declared.ByteEvent.{ByteEvent}
+use Rattle.process.specs.declared.Event.{Event}
+use Rattle.process.specs.declared.ByteEvent.{ByteEvent}
 use Rattle.runner.specs.declared.Drained.{Drained}
-use Rattle.runner.specs.Waiting.{byteTaken}
-use Rattle.runner.specs.Events.{busy, refused, took, answeredWith, tickEvent, readingRight, readingEvent, levelEvent, rangesRight, byteEvent}
-use Rattle.runner.specs.Moving.{moved, cellAt}
+use Rattle.process.specs.Waiting.{byteTaken}
+use Rattle.process.specs.Events.{busy, refused, took, answeredWith, tickEvent, readingRight, readingEvent, levelEvent, rangesRight, byteEvent}
+use Rattle.process.specs.Moving.{moved, cellAt}
 use Rattle.runner.specs.Draining.{lowest, nobody, turn, outcomeOf, does, writes, unaltered, stateAfter, drained, countsAfter}
 use Rattle.runner.specs.Calls as calls
 use Rattle.runner.specs.Calls.{Box, Call, start, tick, byte, reading, level, drain, answeredBy, receivedBy}

@@ -10,11 +10,11 @@ use lib.ListN.{length, length-take, length-drop}
 use borrow.Author.Tests.{ltb-true, leb-true, leb-false, lt-leb, eqb-true, eq-eqb, ne-eqb}
 use Rattle.reader.proofs.Tests.{both-left, both-right, true-is-false, by-cases}
 use Rattle.language.specs.Limits.{dataLimit}
-use Rattle.runner.specs.declared.Progress.{Progress}
-use Rattle.runner.specs.declared.Wait.{Wait}
-use Rattle.runner.specs.declared.Wait.the-variants.{Ready, Over, Ticks, Bytes, Data}
-use Rattle.runner.specs.Matching.{progress}
-use Rattle.runner.specs.Waiting.{awake, tickedWait, awaited, matchedTo, matchedWait, byteWait, progressRight}
+use Rattle.process.specs.declared.Progress.{Progress}
+use Rattle.process.specs.declared.Wait.{Wait}
+use Rattle.process.specs.declared.Wait.the-variants.{Ready, Over, Ticks, Bytes, Data}
+use Rattle.process.specs.Matching.{progress}
+use Rattle.process.specs.Waiting.{awake, tickedWait, awaited, matchedTo, matchedWait, byteWait, progressRight}
 use Rattle.promises.specs.Waits.{since, sinceBytes, EndsAtLast, CountedWaits, EndsIn, DataWait}
 use Rattle.promises.proofs.Matches.{one-byte, at-first, whole-exactly}
 

@@ -12,13 +12,13 @@ use Rattle.reader.proofs.Tests.{both-left, both-right, both, by-cases}
 use Rattle.figures.specs.Flat.{Mark}
 use Rattle.language.specs.declared.Level.{Level}
 use Rattle.language.specs.Limits.{dataLimit}
-use Rattle.runner.specs.declared.Reading.{Reading}
-use Rattle.runner.specs.declared.Progress.{Progress}
-use Rattle.runner.specs.declared.Wait.{Wait}
-use Rattle.runner.specs.declared.Wait.the-variants.{Ready, Over, Ticks, Bytes, Data, ClockValue, Signal}
-use Rattle.runner.specs.declared.Process.{Process}
-use Rattle.runner.specs.Matching.{last, longest, progress, advance}
-use Rattle.runner.specs.Waiting.{awake, tickedWait, ticked, awaited, matchedTo, matchedWait, byteWait, byteTaken, progressRight, waitRight, matches, readingWait, readingTaken, sets, levelWait, levelTaken}
+use Rattle.process.specs.declared.Reading.{Reading}
+use Rattle.process.specs.declared.Progress.{Progress}
+use Rattle.process.specs.declared.Wait.{Wait}
+use Rattle.process.specs.declared.Wait.the-variants.{Ready, Over, Ticks, Bytes, Data, ClockValue, Signal}
+use Rattle.process.specs.declared.Process.{Process}
+use Rattle.process.specs.Matching.{last, longest, progress, advance}
+use Rattle.process.specs.Waiting.{awake, tickedWait, ticked, awaited, matchedTo, matchedWait, byteWait, byteTaken, progressRight, waitRight, matches, readingWait, readingTaken, sets, levelWait, levelTaken}
 use Rattle.promises.proofs.Ahead.{opensOf}
 use Rattle.promises.proofs.Stands.{resting, Held}
 use Rattle.promises.proofs.Ways.{awake-right, awake-fine, rest-fine}

@@ -15,11 +15,11 @@ use Rattle.figures.specs.Flat.{Mark, beyond, nests}
 use Rattle.figures.specs.Scan.{readAt, fragmentAt}
 use Rattle.figures.specs.Written.{repeated, run}
 use Rattle.language.specs.Limits.{loopLimit}
-use Rattle.runner.specs.declared.Wait.{Wait}
-use Rattle.runner.specs.declared.Wait.the-variants.{Ready, Over, Ticks, Bytes, Data, ClockValue, Signal}
-use Rattle.runner.specs.declared.Process.{Process}
-use Rattle.runner.specs.Waiting.{readyWait, waitRight, awake}
-use Rattle.runner.specs.Moving.{goes, again, restsAt}
+use Rattle.process.specs.declared.Wait.{Wait}
+use Rattle.process.specs.declared.Wait.the-variants.{Ready, Over, Ticks, Bytes, Data, ClockValue, Signal}
+use Rattle.process.specs.declared.Process.{Process}
+use Rattle.process.specs.Waiting.{readyWait, waitRight, awake}
+use Rattle.process.specs.Moving.{goes, again, restsAt}
 use Rattle.promises.proofs.Ahead.{Open, opensOf, whole, onward, ahead, run-less, enter}
 use Rattle.promises.proofs.Stands.{Back, Kept, Sits, resting, Fine, Good}
 

@@ -12,15 +12,15 @@ use Rattle.language.specs.declared.Heads.{Heads}
 use Rattle.language.specs.declared.Table.{Table}
 use Rattle.language.specs.Limits.{loopLimit, processLimit}
 use Rattle.stretch.specs.Marks.{begins, stops}
-use Rattle.runner.specs.declared.Wait.the-variants.{Over}
-use Rattle.runner.specs.declared.Process.{Process}
-use Rattle.runner.specs.declared.State.{State}
-use Rattle.runner.specs.declared.Taken.{Taken}
-use Rattle.runner.specs.declared.Taken.the-variants as taken
-use Rattle.runner.specs.declared.Received.{Received}
-use Rattle.runner.specs.declared.Received.the-variants as received
+use Rattle.process.specs.declared.Wait.the-variants.{Over}
+use Rattle.process.specs.declared.Process.{Process}
+use Rattle.process.specs.declared.State.{State}
+use Rattle.process.specs.declared.Taken.{Taken}
+use Rattle.process.specs.declared.Taken.the-variants as taken
+use Rattle.process.specs.declared.Received.{Received}
+use Rattle.process.specs.declared.Received.the-variants as received
 use Rattle.runner.specs.declared.Outcome.the-variants.{Quiet}
-use Rattle.runner.specs.Events.{busy}
+use Rattle.process.specs.Events.{busy}
 use Rattle.runner.specs.Draining.{lowest, nobody}
 use Rattle.runner.specs.Calls as calls
 use Rattle.runner.specs.Calls.{Box, Call, start, drain, Reply, event, outcome}

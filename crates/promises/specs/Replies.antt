@@ -9,13 +9,13 @@ use Rattle.language.specs.declared.Answer.the-variants.{Accepted}
 use Rattle.language.specs.Right.{isByte}
 use Rattle.language.specs.Answer.{compiled}
 use Rattle.accepted.specs.Accepted.{tableRight}
-use Rattle.runner.specs.declared.Taken.{Taken}
-use Rattle.runner.specs.declared.Taken.the-variants as taken
-use Rattle.runner.specs.declared.Received.{Received}
-use Rattle.runner.specs.declared.Received.the-variants as received
+use Rattle.process.specs.declared.Taken.{Taken}
+use Rattle.process.specs.declared.Taken.the-variants as taken
+use Rattle.process.specs.declared.Received.{Received}
+use Rattle.process.specs.declared.Received.the-variants as received
 use Rattle.runner.specs.declared.Outcome.{Outcome}
 use Rattle.runner.specs.declared.Outcome.the-variants.{Quiet, Sent, Recorded, Rts, Fchange, Pause, Resume, Plain, Refused}
-use Rattle.runner.specs.Events.{refusalNumber}
+use Rattle.process.specs.Events.{refusalNumber}
 use Rattle.runner.specs.Calls as calls
 use Rattle.runner.specs.Calls.{Box, Call, Reply, event, outcome, Called}
 

@@ -9,19 +9,19 @@ use Prim.Native.Nat.{ℕ, _-_, _≤_, _<_}
 use lib.ListN.{length, getD}
 use Rattle.language.specs.declared.Heads.{Heads}
 use Rattle.language.specs.declared.Table.{Table}
-use Rattle.runner.specs.declared.Progress.{Progress}
-use Rattle.runner.specs.declared.Wait.{Wait}
-use Rattle.runner.specs.declared.Wait.the-variants.{Ticks, Bytes, Data}
-use Rattle.runner.specs.declared.State.{State}
-use Rattle.runner.specs.declared.Taken.{Taken}
-use Rattle.runner.specs.declared.Taken.the-variants as taken
-use Rattle.runner.specs.declared.Received.{Received}
-use Rattle.runner.specs.declared.Received.the-variants as received
-use Rattle.runner.specs.declared.Copies.{Copies}
-use Rattle.runner.specs.Matching.{last, progress}
-use Rattle.runner.specs.Waiting.{awake, tickedWait, awaited, matchedTo, byteWait, byteTaken}
-use Rattle.runner.specs.Events.{busy, rangesRight, byteEvent}
-use Rattle.runner.specs.Moving.{moved}
+use Rattle.process.specs.declared.Progress.{Progress}
+use Rattle.process.specs.declared.Wait.{Wait}
+use Rattle.process.specs.declared.Wait.the-variants.{Ticks, Bytes, Data}
+use Rattle.process.specs.declared.State.{State}
+use Rattle.process.specs.declared.Taken.{Taken}
+use Rattle.process.specs.declared.Taken.the-variants as taken
+use Rattle.process.specs.declared.Received.{Received}
+use Rattle.process.specs.declared.Received.the-variants as received
+use Rattle.process.specs.declared.Copies.{Copies}
+use Rattle.process.specs.Matching.{last, progress}
+use Rattle.process.specs.Waiting.{awake, tickedWait, awaited, matchedTo, byteWait, byteTaken}
+use Rattle.process.specs.Events.{busy, rangesRight, byteEvent}
+use Rattle.process.specs.Moving.{moved}
 use Rattle.runner.specs.Draining.{lowest, nobody, turn, does}
 use Rattle.runner.specs.Calls as calls
 use Rattle.runner.specs.Calls.{Box, Call, start, tick, byte, reading, level, drain, Reply, event, outcome, Called}

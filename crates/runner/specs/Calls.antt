@@ -3,15 +3,15 @@ use Prim.Native.Nat.{ℕ}
 use mathlib.Core.Bool.{Bool, cond}
 use mathlib.Core.List.{List, [], _∷_}
 use Rattle.language.specs.declared.Table.{Table}
-use Rattle.runner.specs.declared.Reading.{Reading}
-use Rattle.runner.specs.declared.State.{State}
-use Rattle.runner.specs.declared.Taken.{Taken}
-use Rattle.runner.specs.declared.Received.{Received}
+use Rattle.process.specs.declared.Reading.{Reading}
+use Rattle.process.specs.declared.State.{State}
+use Rattle.process.specs.declared.Taken.{Taken}
+use Rattle.process.specs.declared.Received.{Received}
 use Rattle.runner.specs.declared.Outcome.{Outcome}
-use Rattle.runner.specs.declared.Event.{Event}
-use Rattle.runner.specs.declared.ByteEvent.{ByteEvent}
-use Rattle.runner.specs.Events.{took, refused, tickEvent, readingEvent, levelEvent, byteEvent}
-use Rattle.runner.specs.declared.Refusal.the-variants.{BadTable}
+use Rattle.process.specs.declared.Event.{Event}
+use Rattle.process.specs.declared.ByteEvent.{ByteEvent}
+use Rattle.process.specs.Events.{took, refused, tickEvent, readingEvent, levelEvent, byteEvent}
+use Rattle.process.specs.declared.Refusal.the-variants.{BadTable}
 use Rattle.runner.specs.Draining.{does, writes, drained, countsAfter}
 use Rattle.runner.specs.Starting.{startState, noCounts}
 

@@ -11,19 +11,19 @@ use Rattle.language.specs.declared.Cell.{Cell}
 use Rattle.language.specs.declared.Cell.the-variants as cell
 use Rattle.language.specs.Limits.{loopLimit, processLimit}
 use Rattle.language.specs.Table.{dataAt}
-use Rattle.runner.specs.declared.Reading.{Reading}
-use Rattle.runner.specs.declared.Wait.the-variants.{Over}
-use Rattle.runner.specs.declared.Process.{Process}
-use Rattle.runner.specs.declared.State.{State}
-use Rattle.runner.specs.declared.Refusal.{Refusal}
-use Rattle.runner.specs.declared.Refusal.the-variants.{SmallBuffer, BadTable}
+use Rattle.process.specs.declared.Reading.{Reading}
+use Rattle.process.specs.declared.Wait.the-variants.{Over}
+use Rattle.process.specs.declared.Process.{Process}
+use Rattle.process.specs.declared.State.{State}
+use Rattle.process.specs.declared.Refusal.{Refusal}
+use Rattle.process.specs.declared.Refusal.the-variants.{SmallBuffer, BadTable}
 use Rattle.runner.specs.declared.Outcome.{Outcome}
 use Rattle.runner.specs.declared.Outcome.the-variants.{Quiet, Sent, Recorded, Rts, Fchange, Pause, Resume, Plain, Refused}
 use Rattle.runner.specs.declared.Drained.{Drained}
-use Rattle.runner.specs.declared.Moved.{Moved}
-use Rattle.runner.specs.Waiting.{ready}
-use Rattle.runner.specs.Moving.{moved, cellAt}
-use Rattle.runner.specs.Logging.{recordOf, nextCount}
+use Rattle.process.specs.declared.Moved.{Moved}
+use Rattle.process.specs.Waiting.{ready}
+use Rattle.process.specs.Moving.{moved, cellAt}
+use Rattle.record.specs.Logging.{recordOf, nextCount}
 
 -- the number, from 0, of the first process that is ready; their number where none is
 unfoldable pub lowest : List Process → ℕ

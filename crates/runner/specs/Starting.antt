@@ -6,10 +6,10 @@ use lib.ListN.{getD, replicate}
 use lib.Dec.{ltb}
 use Rattle.language.specs.declared.Heads.{Heads}
 use Rattle.language.specs.Limits.{linesLimit, loopLimit, processLimit}
-use Rattle.runner.specs.declared.Reading.{Reading}
-use Rattle.runner.specs.declared.Process.{Process}
-use Rattle.runner.specs.declared.State.{State}
-use Rattle.runner.specs.Waiting.{awake}
+use Rattle.process.specs.declared.Reading.{Reading}
+use Rattle.process.specs.declared.Process.{Process}
+use Rattle.process.specs.declared.State.{State}
+use Rattle.process.specs.Waiting.{awake}
 
 -- a process at its first statement, with no loop open
 abbrev pub startAt : ℕ → ℕ → Process

@@ -1,101 +1,10 @@
-// The runner: start, the four events and the drain, on a lent table and a state by value.
-use language::Clock;
-
-pub mod events;
-mod joining;
-mod matching;
-mod moving;
-pub mod receiving;
-mod waits;
-
+// The runner: the start and the drain, on a lent table, lent counts and a state by value. The four events are `process`'s.
 use language::LINES;
-use language::LOOPS;
-use language::Level;
-use language::PROCESSES;
+use process::Refusal;
+use process::State;
 
 // How often each LOG statement has recorded, by the place of its cell.
 pub type Counts = [u32; LINES];
-
-// A reading of the clock.
-pub struct Reading {
-    pub year: u8,
-    pub month: u8,
-    pub day: u8,
-    pub hour: u8,
-    pub minute: u8,
-    pub second: u8,
-}
-
-// A wait for data: where they lie in the pool, and how many of their first bytes are the last bytes received.
-pub struct Progress {
-    pub from: u16,
-    pub count: u16,
-    pub matched: u16,
-}
-
-// What a process waits for: nothing; nothing any more; so many ticks or bytes; data; a clock value; a level.
-pub enum Wait {
-    Ready,
-    Over,
-    Ticks(u32),
-    Bytes(u16),
-    Data(Progress),
-    ClockValue(Clock),
-    Signal(Level),
-}
-
-// A process: the place of its next statement and the place behind its last; how many loops are open, and of each the passes left,
-// 0 for a forever loop, and the place where its body begins; and its wait.
-pub struct Process {
-    pub place: u16,
-    pub end: u16,
-    pub depth: u8,
-    pub left: [u16; LOOPS],
-    pub back: [u16; LOOPS],
-    pub wait: Wait,
-}
-
-// The state: the processes, the last reading, the levels of CTS and EX1 to EX4, and whether recording is paused.
-pub struct State {
-    pub processes: [Process; PROCESSES],
-    pub reading: Reading,
-    pub levels: [bool; 5],
-    pub paused: bool,
-}
-
-// Why a call is refused.
-pub enum Refusal {
-    Busy,
-    BadReading,
-    NoSuchSignal,
-    SmallBuffer,
-    BadTable,
-}
-
-pub enum Taken {
-    Took,
-    Refused(Refusal),
-}
-
-pub struct Event {
-    pub state: State,
-    pub answer: Taken,
-}
-
-// How often a received byte is recorded: not at all, once or twice.
-pub struct Copies {
-    pub count: u8,
-}
-
-pub enum Received {
-    Took(Copies),
-    Refused(Refusal),
-}
-
-pub struct ByteEvent {
-    pub state: State,
-    pub answer: Received,
-}
 
 pub struct Length {
     pub bytes: usize,
@@ -121,22 +30,4 @@ pub enum Outcome {
 pub struct Drained {
     pub state: State,
     pub outcome: Outcome,
-}
-
-// A process after its statement; or as it was, where a place, loop or data range leaves the table.
-pub struct Moved {
-    pub found: bool,
-    pub process: Process,
-}
-
-// What follows a WAIT DATA line: another with so many bytes, or something else.
-pub enum Follow {
-    Bytes(u16),
-    Other,
-}
-
-// The WAIT DATA lines that follow: how many cells, and how many bytes they have.
-pub struct Joined {
-    pub cells: u16,
-    pub bytes: u32,
 }

@@ -1,0 +1,16 @@
+-- `process::Process::level` meets its contract. Assumes nothing.
+use borrow.Author.Needs.{needs}
+use Rattle.process.proofs.Process.level.Statement.{statement}
+use Rattle.process.proofs.Process.level.Tie as tie
+
+level-requires : tie.Need-level-requires
+level-requires c κs = search needs
+
+with-requires : tie.Need-with-requires
+with-requires c κs = search needs
+
+returns : tie.Need-returns
+returns c = cc
+
+pub level-spec : {M : Type 1} → statement M
+level-spec = tie.close (tie.spec level-requires with-requires returns)

@@ -1,0 +1,16 @@
+-- `process::Process::tick` meets its contract. Assumes nothing.
+use borrow.Author.Needs.{needs}
+use Rattle.process.proofs.Process.tick.Statement.{statement}
+use Rattle.process.proofs.Process.tick.Tie as tie
+
+tick-requires : tie.Need-tick-requires
+tick-requires c κs = search needs
+
+with-requires : tie.Need-with-requires
+with-requires c κs = search needs
+
+returns : tie.Need-returns
+returns c = cc
+
+pub tick-spec : {M : Type 1} → statement M
+tick-spec = tie.close (tie.spec tick-requires with-requires returns)

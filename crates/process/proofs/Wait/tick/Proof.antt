@@ -1,0 +1,78 @@
+-- `process::Wait::tick` meets its contract: each arm is given which variant the wait is. Assumes nothing.
+use borrow.Author.Tests.{le-leb, lt-leb}
+use borrow.Author.Needs.{needs}
+use Rattle.process.proofs.Wait.tick.Statement.{statement}
+use Rattle.process.proofs.Wait.tick.Tie as tie
+
+enum-told : tie.Need-enum-told
+enum-told c = search needs
+
+enum-told-2 : tie.Need-enum-told-2
+enum-told-2 c = search needs
+
+enum-known-self : tie.Need-enum-known-self
+enum-known-self c = search needs
+
+awaken-requires : tie.Need-awaken-requires
+awaken-requires c κs = search needs
+
+returns : tie.Need-returns
+returns c = cc (le-leb (c .before .before .before .self .given .0 .0) 1 (c .before .if1 .taken))
+
+sub-t7 : tie.Need-sub-t7
+sub-t7 c = search needs
+
+enum-told-3 : tie.Need-enum-told-3
+enum-told-3 c = search needs
+
+enum-told-4 : tie.Need-enum-told-4
+enum-told-4 c = search needs
+
+enum-told-5 : tie.Need-enum-told-5
+enum-told-5 c = search needs
+
+enum-told-6 : tie.Need-enum-told-6
+enum-told-6 c = search needs
+
+returns-2 : tie.Need-returns-2
+returns-2 c = search needs
+
+returns-3 : tie.Need-returns-3
+returns-3 c = search needs
+
+returns-4 : tie.Need-returns-4
+returns-4 c = cc (lt-leb (c .before .before .self .given .0 .0) 1 (c .if1 .left))
+
+returns-5 : tie.Need-returns-5
+returns-5 c = search needs
+
+returns-6 : tie.Need-returns-6
+returns-6 c = search needs
+
+returns-7 : tie.Need-returns-7
+returns-7 c = search needs
+
+returns-8 : tie.Need-returns-8
+returns-8 c = search needs
+
+pub tick-spec : {M : Type 1} → statement M
+tick-spec =
+    tie.close
+    (tie.spec
+    enum-told
+    enum-told-2
+    enum-known-self
+    awaken-requires
+    returns
+    sub-t7
+    enum-told-3
+    enum-told-4
+    enum-told-5
+    enum-told-6
+    returns-2
+    returns-3
+    returns-4
+    returns-5
+    returns-6
+    returns-7
+    returns-8)

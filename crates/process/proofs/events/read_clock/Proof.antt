@@ -1,0 +1,48 @@
+-- `process::events::read_clock` meets its contract. Assumes nothing.
+use mathlib.Core.Path.{sym, _∙_}
+use Rattle.process.proofs.EventCases.{reading-busy, reading-takes, reading-wrong}
+use borrow.Author.Needs.{needs}
+use Rattle.process.proofs.events.read_clock.Statement.{statement}
+use Rattle.process.proofs.events.read_clock.Tie as tie
+
+any-ready-requires : tie.Need-any-ready-requires
+any-ready-requires c κs = search needs
+
+refuse-requires : tie.Need-refuse-requires
+refuse-requires c κs = search needs
+
+returns : tie.Need-returns
+returns c = let a = c .before .before .before .before .args in
+    c .refuse .ensures ∙ sym (reading-busy (a .s) (sym (c .before .before .any-ready .ensures) ∙ c .before .if1 .taken) (a .r))
+
+reading-right-requires : tie.Need-reading-right-requires
+reading-right-requires c κs = search needs
+
+all-read-requires : tie.Need-all-read-requires
+all-read-requires c κs = search needs
+
+returns-2 : tie.Need-returns-2
+returns-2 c = let w = c .before .before .before in
+    let a = w .before .before .before .args in
+    rw (c .all-read .ensures) (sym (reading-takes (a .s) (sym (w .before .any-ready .ensures) ∙ w .if1 .left) (a .r) (sym (c .before .before .reading-right .ensures) ∙ c .before .if2 .taken)))
+
+refuse-requires-2 : tie.Need-refuse-requires-2
+refuse-requires-2 c κs = search needs
+
+returns-3 : tie.Need-returns-3
+returns-3 c = let w = c .before .before .before in
+    let a = w .before .before .before .args in
+    c .refuse2 .ensures ∙ sym (reading-wrong (a .s) (sym (w .before .any-ready .ensures) ∙ w .if1 .left) (a .r) (sym (c .before .before .reading-right .ensures) ∙ c .before .if2 .left))
+
+pub read-clock-spec : {M : Type 1} → statement M
+read-clock-spec =
+    tie.close
+    (tie.spec
+    any-ready-requires
+    refuse-requires
+    returns
+    reading-right-requires
+    all-read-requires
+    returns-2
+    refuse-requires-2
+    returns-3)

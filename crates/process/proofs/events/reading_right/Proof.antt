@@ -1,0 +1,43 @@
+-- `process::events::reading_right` meets its contract. Assumes nothing.
+use Rattle.process.specs.Events.{readingRight}
+use borrow.Author.Needs.{needs}
+use Rattle.process.proofs.events.reading_right.Statement.{statement}
+use Rattle.process.proofs.events.reading_right.Tie as tie
+
+both-requires : tie.Need-both-requires
+both-requires c κs = search needs
+
+both-requires-2 : tie.Need-both-requires-2
+both-requires-2 c κs = search needs
+
+both-requires-3 : tie.Need-both-requires-3
+both-requires-3 c κs = search needs
+
+both-requires-4 : tie.Need-both-requires-4
+both-requires-4 c κs = search needs
+
+both-requires-5 : tie.Need-both-requires-5
+both-requires-5 c κs = search needs
+
+both-requires-6 : tie.Need-both-requires-6
+both-requires-6 c κs = search needs
+
+both-requires-7 : tie.Need-both-requires-7
+both-requires-7 c κs = search needs
+
+returns : tie.Need-returns
+unfolding readingRight
+returns c = cc
+
+pub reading-right-spec : {M : Type 1} → statement M
+reading-right-spec =
+    tie.close
+    (tie.spec
+    both-requires
+    both-requires-2
+    both-requires-3
+    both-requires-4
+    both-requires-5
+    both-requires-6
+    both-requires-7
+    returns)

@@ -1,0 +1,48 @@
+-- `process::events::set_level` meets its contract. Assumes nothing.
+use mathlib.Core.Path.{sym, _∙_}
+use Rattle.process.proofs.EventCases.{level-busy, level-takes, level-none}
+use borrow.Author.Needs.{needs}
+use Rattle.process.proofs.events.set_level.Statement.{statement}
+use Rattle.process.proofs.events.set_level.Tie as tie
+
+any-ready-requires : tie.Need-any-ready-requires
+any-ready-requires c κs = search needs
+
+refuse-requires : tie.Need-refuse-requires
+refuse-requires c κs = search needs
+
+returns : tie.Need-returns
+returns c = let a = c .before .before .before .before .args in
+    c .refuse .ensures ∙ sym (level-busy (a .s) (sym (c .before .before .any-ready .ensures) ∙ c .before .if1 .taken) (a .signal) (a .on))
+
+all-level-requires : tie.Need-all-level-requires
+all-level-requires c κs = search needs
+
+array-write-levels : tie.Need-array-write-levels
+array-write-levels c = search needs
+
+returns-2 : tie.Need-returns-2
+returns-2 c = let w = c .before .before .before in
+    let a = w .before .before .before .args in
+    rw (c .before .all-level .ensures) (sym (level-takes (a .s) (sym (w .before .any-ready .ensures) ∙ w .if1 .left) (a .signal) (a .on) (c .before .before .if2 .taken)))
+
+refuse-requires-2 : tie.Need-refuse-requires-2
+refuse-requires-2 c κs = search needs
+
+returns-3 : tie.Need-returns-3
+returns-3 c = let w = c .before .before in
+    let a = w .before .before .before .args in
+    c .refuse2 .ensures ∙ sym (level-none (a .s) (sym (w .before .any-ready .ensures) ∙ w .if1 .left) (a .signal) (a .on) (c .before .if2 .left))
+
+pub set-level-spec : {M : Type 1} → statement M
+set-level-spec =
+    tie.close
+    (tie.spec
+    any-ready-requires
+    refuse-requires
+    returns
+    all-level-requires
+    array-write-levels
+    returns-2
+    refuse-requires-2
+    returns-3)

@@ -1,0 +1,99 @@
+-- The four events on the state. "An event is taken only when no process is ready." "In the runner 25, then 24, then 21, 22, 23."
+use Prim.Native.Nat.{ℕ}
+use mathlib.Core.Bool.{Bool, true, false, cond, _&&_, _||_}
+use mathlib.Core.List.{List, [], _∷_, map}
+use lib.ListN.{set}
+use lib.Dec.{ltb, leb}
+use Rattle.language.specs.declared.Heads.{Heads}
+use Rattle.language.specs.declared.Level.{Level}
+use Rattle.language.specs.Limits.{omitLimit}
+use Rattle.language.specs.Cell.{level}
+use Rattle.process.specs.declared.Reading.{Reading}
+use Rattle.process.specs.declared.Process.{Process}
+use Rattle.process.specs.declared.State.{State}
+use Rattle.process.specs.declared.Refusal.{Refusal}
+use Rattle.process.specs.declared.Refusal.the-variants.{Busy, BadReading, NoSuchSignal, SmallBuffer, BadTable}
+use Rattle.process.specs.declared.Taken.the-variants as taken
+use Rattle.process.specs.declared.Event.{Event}
+use Rattle.process.specs.declared.Received.{Received}
+use Rattle.process.specs.declared.Received.the-variants as received
+use Rattle.process.specs.declared.ByteEvent.{ByteEvent}
+use Rattle.process.specs.Waiting.{ready, ticked, byteTaken, rangeRight, readingTaken, levelTaken}
+use Rattle.process.specs.Recording.{copies}
+
+-- "Numbers the bench reads back", the rows of the runner
+unfoldable pub refusalNumber : Refusal → ℕ
+refusalNumber Busy = 21
+refusalNumber BadReading = 22
+refusalNumber NoSuchSignal = 23
+refusalNumber SmallBuffer = 24
+refusalNumber BadTable = 25
+
+-- some element passes a test
+abbrev pub any : {A : Type 0} → (A → Bool) → List A → Bool
+any f [] = false
+any f (x ∷ xs) = f x || any f xs
+
+-- every element does
+abbrev pub every : {A : Type 0} → (A → Bool) → List A → Bool
+every f [] = true
+every f (x ∷ xs) = f x && every f xs
+
+-- some process is ready
+unfoldable pub busy : State → Bool
+busy s = any ready (s .processes)
+
+-- "A refusal alters no state"
+abbrev pub refused : State → Refusal → Event
+refused s r = record { state = s; answer = taken.Refused r }
+
+-- an event that was taken
+abbrev pub took : State → Event
+took s = record { state = s; answer = taken.Took }
+
+-- the state with other processes
+abbrev pub withProcesses : State → List Process → State
+withProcesses s ps = record { processes = ps; reading = s .reading; levels = s .levels; paused = s .paused }
+
+-- a tick of 1 ms: 21
+unfoldable pub tickEvent : State → Event
+tickEvent s = cond (busy s) (refused s Busy) (took (withProcesses s (map ticked (s .processes))))
+
+-- "A reading has year 0 to 99, month 1 to 12, day 1 to 31, hour to 23, minute and second to 59."
+unfoldable pub readingRight : Reading → Bool
+readingRight r =
+    (leb (r .year) 99 && (leb 1 (r .month) && (leb (r .month) 12 && (leb 1 (r .day) && leb (r .day) 31))))
+    && (leb (r .hour) 23 && (leb (r .minute) 59 && leb (r .second) 59))
+
+-- a clock reading: 21, then 22
+unfoldable pub readingEvent : State → Reading → Event
+readingEvent s r =
+    cond (busy s) (refused s Busy)
+    (cond (readingRight r)
+    (took (record { processes = map (readingTaken r) (s .processes); reading = r; levels = s .levels; paused = s .paused }))
+    (refused s BadReading))
+
+-- a signal level, "0 (CTS) or 1 to 4 (EX)": 21, then 23
+unfoldable pub levelEvent : State → ℕ → Bool → Event
+levelEvent s n on =
+    cond (busy s) (refused s Busy)
+    (cond (ltb n 5)
+    (took (record { processes = map (levelTaken (level n on)) (s .processes); reading = s .reading; levels = set (s .levels) n on; paused = s .paused }))
+    (refused s NoSuchSignal))
+
+-- what the byte event must use lies within the table: the data of each wait, and the OMIT bytes
+unfoldable pub rangesRight : Heads → State → Bool
+rangesRight h s = leb (h .omits) omitLimit && every rangeRight (s .processes)
+
+-- a received byte's answer
+abbrev pub answeredWith : State → Received → ByteEvent
+answeredWith s a = record { state = s; answer = a }
+
+-- a received byte: 25, then 21; "It counts for waits in every case"
+unfoldable pub byteEvent : List ℕ → Heads → State → ℕ → ByteEvent
+byteEvent pool h s b =
+    cond (rangesRight h s)
+    (cond (busy s)
+    (answeredWith s (received.Refused Busy))
+    (answeredWith (withProcesses s (map (byteTaken pool b) (s .processes))) (received.Took (record { count = copies h (s .paused) b }))))
+    (answeredWith s (received.Refused BadTable))

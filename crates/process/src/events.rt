@@ -1,0 +1,200 @@
+// The four events on a process and on the state.
+ghost use mathlib.Core.Path.{_≡_};
+ghost use mathlib.Core.Bool.{true, _&&_};
+ghost use mathlib.Core.List.{map};
+ghost use Prim.Native.Nat.{_+_, _≤_};
+ghost use lib.ListN.{take};
+ghost use lib.Dec.{leb};
+ghost use Rattle.process.specs.Waiting.{ready, withWait, ticked, awaited, byteWait, byteTaken, progressRight, waitRight, rangeRight, readingTaken, levelTaken};
+ghost use Rattle.process.specs.Recording.{oneOf, copies};
+ghost use Rattle.process.specs.Events.{any, every, busy, refused, tickEvent, readingRight, readingEvent, levelEvent, rangesRight, byteEvent};
+use crate::ByteEvent;
+use crate::Copies;
+use crate::Event;
+use crate::Process;
+use crate::Progress;
+use crate::Reading;
+use crate::Received;
+use crate::Refusal;
+use crate::State;
+use crate::Taken;
+use crate::Wait;
+use crate::matching::advanced;
+use crate::waits::awaken;
+use crate::waits::both;
+use language::Heads;
+use language::Level;
+use language::PROCESSES;
+use language::Pool;
+
+impl Process {
+    pub fn is_ready(self) -> bool
+        ensures { λ r. ⌜ r ≡ ready self ⌝ }
+    {
+        let w = self.wait;
+        w.is_ready()
+    }
+
+    // A process with another wait.
+    pub(crate) fn with(self, wait: Wait) -> Self
+        ensures { λ r. ⌜ r ≡ withWait self wait ⌝ }
+    {
+        let left = self.left;
+        let back = self.back;
+        Process {
+            place: self.place,
+            end: self.end,
+            depth: self.depth,
+            left: left,
+            back: back,
+            wait: wait,
+        }
+    }
+
+    // "WAIT TIME of n ms ends at the n-th tick": the process takes a tick and is handed back.
+    pub fn tick(self) -> Self
+        ensures { λ r. ⌜ r ≡ ticked self ⌝ }
+    {
+        let w = self.wait;
+        self.with(w.tick(self.place, self.end))
+    }
+
+    pub fn read(self, r: Reading) -> Self
+        ensures { λ p. ⌜ p ≡ readingTaken r self ⌝ }
+    {
+        let w = self.wait;
+        self.with(w.read(r, self.place, self.end))
+    }
+
+    pub fn level(self, e: Level) -> Self
+        ensures { λ p. ⌜ p ≡ levelTaken e self ⌝ }
+    {
+        let w = self.wait;
+        self.with(w.level(e, self.place, self.end))
+    }
+}
+
+// Whether some process is ready.
+pub(crate) fn any_ready(ps: [Process; PROCESSES]) -> bool
+    ensures { λ r. ⌜ r ≡ any ready ps ⌝ }
+{
+    for i in 0..8 {
+        let p = ps[i];
+        if p.is_ready() {
+            return true;
+        }
+    }
+    false
+}
+
+fn all_ticked(ps: [Process; PROCESSES]) -> [Process; PROCESSES]
+    ensures { λ r. ⌜ r ≡ map ticked ps ⌝ }
+{
+    let mut next = ps;
+    for i in 0..8 {
+        let p = next[i];
+        next[i] = p.tick();
+    }
+    next
+}
+
+fn all_read(ps: [Process; PROCESSES], r: Reading) -> [Process; PROCESSES]
+    ensures { λ n. ⌜ n ≡ map (readingTaken r) ps ⌝ }
+{
+    let mut next = ps;
+    for i in 0..8 {
+        let p = next[i];
+        next[i] = p.read(r);
+    }
+    next
+}
+
+fn all_level(ps: [Process; PROCESSES], e: Level) -> [Process; PROCESSES]
+    ensures { λ n. ⌜ n ≡ map (levelTaken e) ps ⌝ }
+{
+    let mut next = ps;
+    for i in 0..8 {
+        let p = next[i];
+        next[i] = p.level(e);
+    }
+    next
+}
+
+fn refuse(s: State, why: Refusal) -> Event
+    ensures { λ r. ⌜ r ≡ refused s why ⌝ }
+{
+    Event {
+        state: s,
+        answer: Taken::Refused(why),
+    }
+}
+
+// A tick of 1 ms.
+pub fn tick(s: State) -> Event
+    ensures { λ r. ⌜ r ≡ tickEvent s ⌝ }
+{
+    let ps = s.processes;
+    if any_ready(ps) {
+        return refuse(s, Refusal::Busy);
+    }
+    let mut t = s;
+    let next = all_ticked(ps);
+    t.processes = next;
+    Event {
+        state: t,
+        answer: Taken::Took,
+    }
+}
+
+fn reading_right(r: Reading) -> bool
+    ensures { λ d. ⌜ d ≡ readingRight r ⌝ }
+{
+    let date = both(r.month <= 12, both(1 <= r.day, r.day <= 31));
+    let hour = both(r.hour <= 23, both(r.minute <= 59, r.second <= 59));
+    both(both(r.year <= 99, both(1 <= r.month, date)), hour)
+}
+
+// A reading of the clock.
+pub fn read_clock(s: State, r: Reading) -> Event
+    ensures { λ e. ⌜ e ≡ readingEvent s r ⌝ }
+{
+    let ps = s.processes;
+    if any_ready(ps) {
+        return refuse(s, Refusal::Busy);
+    }
+    if reading_right(r) {
+        let mut t = s;
+        let next = all_read(ps, r);
+        t.processes = next;
+        t.reading = r;
+        return Event {
+            state: t,
+            answer: Taken::Took,
+        };
+    }
+    refuse(s, Refusal::BadReading)
+}
+
+// A level of a signal, 0 for CTS and 1 to 4 for EX.
+pub fn set_level(s: State, signal: u8, on: bool) -> Event
+    ensures { λ e. ⌜ e ≡ levelEvent s signal on ⌝ }
+{
+    let ps = s.processes;
+    if any_ready(ps) {
+        return refuse(s, Refusal::Busy);
+    }
+    if signal < 5 {
+        let at = signal as usize;
+        let next = all_level(ps, Level { signal, on });
+        let mut levels = s.levels;
+        levels[at] = on;
+        let mut t = s;
+        t.processes = next;
+        t.levels = levels;
+        return Event {
+            state: t,
+            answer: Taken::Took,
+        };
+    }
+    refuse(s, Refusal::NoSuchSignal)
+}
