@@ -1,4 +1,6 @@
 // A process: what it waits for, the four events, and one statement of it. A state by value, a lent table.
+ghost use mathlib.Core.Path.{_≡_};
+ghost use Rattle.process.specs.Events.{refusalNumber};
 use language::Clock;
 
 pub mod events;
@@ -6,7 +8,7 @@ mod joining;
 mod matching;
 pub mod moving;
 pub mod receiving;
-mod waits;
+pub mod waits;
 
 use language::LOOPS;
 use language::Level;
@@ -66,6 +68,21 @@ pub enum Refusal {
     NoSuchSignal,
     SmallBuffer,
     BadTable,
+}
+
+impl Refusal {
+    // "Numbers the bench reads back".
+    pub fn number(self) -> u8
+        ensures { λ r. ⌜ r ≡ refusalNumber self ⌝ }
+    {
+        match self {
+            Refusal::Busy => 21,
+            Refusal::BadReading => 22,
+            Refusal::NoSuchSignal => 23,
+            Refusal::SmallBuffer => 24,
+            Refusal::BadTable => 25,
+        }
+    }
 }
 
 pub enum Taken {

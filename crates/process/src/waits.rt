@@ -12,7 +12,7 @@ use language::Level;
 use language::Pool;
 
 // "one past its last statement is never ready again"
-pub(crate) fn awaken(place: u16, end: u16) -> Wait
+pub fn awaken(place: u16, end: u16) -> Wait
     ensures { λ r. ⌜ r ≡ awake place end ⌝ }
 {
     if place < end { Wait::Ready } else { Wait::Over }

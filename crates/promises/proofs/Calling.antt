@@ -36,7 +36,7 @@ use Rattle.process.specs.Recording.{copies}
 use Rattle.process.specs.Events.{refusalNumber, every, busy, refused, took, withProcesses, tickEvent, readingRight, readingEvent, levelEvent, rangesRight, byteEvent}
 use Rattle.process.specs.Moving.{moved, cellAt}
 use Rattle.runner.specs.Draining.{lowest, nobody, turn, outcomeOf, writes, stateAfter, unaltered, drained}
-use Rattle.runner.specs.Starting.{startAt, started, startState, noCounts}
+use Rattle.runner.specs.Starting.{startAt, started, startState, noCounts, startEvent, startCounts}
 use Rattle.runner.specs.Calls as calls
 use Rattle.runner.specs.Calls.{Box, Call, start, tick, byte, reading, drain, outcome, Called, boxed, answeredBy, receivedBy, startCall}
 use Rattle.promises.specs.Replies.{called, outcomeNumber, replyNumber, did}
@@ -228,7 +228,7 @@ module _ (t : Table) (k : ℕ) (a : Fitting t k) where
     -- ---- every call
 
     pub call-keeps : (q : Call) → Keeps t k b f (called t q b)
-    unfolding calls.called startCall tickEvent readingEvent levelEvent refusalNumber
+    unfolding calls.called startCall startEvent startCounts tickEvent readingEvent levelEvent refusalNumber
     call-keeps start = rw (a .started) (took-keeps noCounts (startState hs) start-all)
     call-keeps tick =
         let s : State = b .state in

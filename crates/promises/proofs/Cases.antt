@@ -39,7 +39,7 @@ record Ran (text : List ℕ) (qs : List Call) (rs : List Reply) : Type 0 where
 -- so the start is taken, whatever the box held before
 runs-so : (text : List ℕ) (qs : List Call) (rs : List Reply) → Ran text qs rs → (b : Box) →
     replies tableRight (compiled text .table) b (start ∷ qs) ≡ event taken.Took ∷ rs
-unfolding replies calls.called calls.startCall
+unfolding replies calls.called calls.startCall starting.startEvent starting.startCounts
 runs-so text qs rs r b = rw (fitting {text = text} {t = compiled text .table} {k = r .stretch} (record { bytes = r .bytes; result = r .result }) .started, r .replied)
 
 -- what is computed of a case, and of all

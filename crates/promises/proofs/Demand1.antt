@@ -24,6 +24,7 @@ use Rattle.process.specs.Events.{refusalNumber, busy, refused, took, tickEvent,
 use Rattle.process.specs.Moving.{moved, cellAt}
 use Rattle.runner.specs.Draining.{lowest, turn, outcomeOf, does, writes, stateAfter, unaltered, drained, bufferAfter, countsAfter}
 use Rattle.runner.specs.Calls as calls
+use Rattle.runner.specs.Starting.{startEvent, startCounts}
 use Rattle.runner.specs.Calls.{Box, Call, start, tick, byte, reading, drain, Reply, event, outcome, Called, boxed, startCall}
 use Rattle.promises.specs.Replies.{called, takenNumber, receivedNumber, outcomeNumber, replyNumber}
 use Rattle.promises.specs.Demand1.{Refuses, Spares}
@@ -96,9 +97,15 @@ module _ (t : Table) (b : Box) where
       (record { state = stateAfter (t .cells) (b .state); outcome = outcomeOf (length (writes (t .cells) (t .pool) (b .state) (b .counts))) (cellAt (t .cells) (turn (b .state))) })
       out written (outcome-did (length (writes (t .cells) (t .pool) (b .state) (b .counts))) (cellAt (t .cells) (turn (b .state))) .1) l
 
+  start-leaves : (right : Bool) → 0 < replyNumber (event (startEvent right (t .heads) (b .state) .answer)) →
+      boxed (startEvent right (t .heads) (b .state) .state) (startCounts right (b .counts)) ≡ b
+  unfolding startEvent startCounts replyNumber
+  start-leaves true l = absurd (omega arith)
+  start-leaves false l = refl
+
   leaves : (q : Call) → 0 < replyNumber (called t q b .reply) → called t q b .box ≡ b
   unfolding calls.called startCall tickEvent readingEvent levelEvent byteEvent replyNumber countsAfter
-  leaves start = by-cases (λ (r : Called). 0 < replyNumber (r .reply) → r .box ≡ b) (tableRight t) _ _ (λ e l. absurd (omega arith)) (λ e l. refl)
+  leaves start = start-leaves (tableRight t)
   leaves tick = by-cases (Leaves b) (busy (b .state)) _ _ (λ e. refused-leaves b Busy) (λ e. took-leaves b _)
   leaves (byte x) =
       by-cases (LeavesByte b) (rangesRight (t .heads) (b .state)) _ _

@@ -15,6 +15,7 @@ use Rattle.process.specs.declared.Process.{Process}
 use Rattle.process.specs.Waiting.{readyWait}
 use Rattle.runner.specs.Draining.{nobody}
 use Rattle.runner.specs.Calls as calls
+use Rattle.runner.specs.Starting.{startEvent, startCounts}
 use Rattle.runner.specs.Calls.{Box, Call, startCall}
 use Rattle.promises.specs.Replies.{Compiles}
 use Rattle.promises.specs.Demand3.{tally, Run, next, after, fresh, firstOf, endOf, Safe, Bounded}
@@ -50,7 +51,7 @@ module _ (t : Table) (k : ℕ) (a : Fitting t k) where
       }
 
   fresh-all : (b : Box) → let r = fresh t b in All t k (r .box .state) (r .done)
-  unfolding fresh next tally calls.called startCall
+  unfolding fresh next tally calls.called startCall startEvent startCounts
   fresh-all b = rw (a .started) (start-all t k a)
 
   after-all : (qs : List Call) (r : Run) → All t k (r .box .state) (r .done) → All t k (after t r qs .box .state) (after t r qs .done)

@@ -19,3 +19,6 @@ pub mod Matches
 pub mod WaitLaws
 pub mod Turns
 pub mod Cases
+pub mod Records
+pub mod Recording
+pub mod Counts

@@ -16,7 +16,7 @@ use Rattle.accepted.specs.Accepted.{tableRight}
 use Rattle.process.specs.Waiting.{awake}
 use Rattle.process.specs.Moving.{restsUnless, movedBy, moved}
 use Rattle.runner.specs.Draining.{lowest, outcomeOf, drained, stateAfter}
-use Rattle.runner.specs.Starting.{started, startedFrom, startState, noCounts}
+use Rattle.runner.specs.Starting.{started, startedFrom, startState, noCounts, startEvent, startCounts}
 use Rattle.runner.specs.Calls as calls
 use Rattle.runner.specs.Calls.{Box, Call, drain, boxed, startCall}
 use Rattle.promises.specs.Replies.{Compiles}
@@ -36,7 +36,7 @@ compiles = record { bytes = refl; result = refl }
 
 -- where a start is taken
 fresh-is : (t : Table) (b : Box) → tableRight t ≡ true → fresh t b ≡ record { box = boxed (startState (t .heads)) noCounts; done = λ i. 0 }
-unfolding fresh next tally calls.called startCall
+unfolding fresh next tally calls.called startCall startEvent startCounts
 fresh-is t b e = rw e
 
 abbrev two : List Call

@@ -48,7 +48,7 @@ module _ {E : Type 0} (take : E → Wait → Wait) (wait : ℕ → Wait) (place 
   ends-at-last = record { waits = waits-on; ends = ends-at }
 
 -- an event leaves a wait that is over as it is
-awake-stays : (take : Wait → Wait) → take Ready ≡ Ready → take Over ≡ Over → (place end : ℕ) → take (awake place end) ≡ awake place end
+pub awake-stays : (take : Wait → Wait) → take Ready ≡ Ready → take Over ≡ Over → (place end : ℕ) → take (awake place end) ≡ awake place end
 unfolding awake
 awake-stays take r o place end = go (ltb place end)
   where

@@ -10,10 +10,9 @@ use Rattle.process.specs.declared.Received.{Received}
 use Rattle.runner.specs.declared.Outcome.{Outcome}
 use Rattle.process.specs.declared.Event.{Event}
 use Rattle.process.specs.declared.ByteEvent.{ByteEvent}
-use Rattle.process.specs.Events.{took, refused, tickEvent, readingEvent, levelEvent, byteEvent}
-use Rattle.process.specs.declared.Refusal.the-variants.{BadTable}
+use Rattle.process.specs.Events.{tickEvent, readingEvent, levelEvent, byteEvent}
 use Rattle.runner.specs.Draining.{does, writes, drained, countsAfter}
-use Rattle.runner.specs.Starting.{startState, noCounts}
+use Rattle.runner.specs.Starting.{startEvent, startCounts}
 
 -- what is handed on from call to call
 pub record Box : Type 0 where
@@ -51,10 +50,10 @@ answeredBy counts e = record { box = boxed (e .state) counts; reply = event (e .
 abbrev pub receivedBy : List ℕ → ByteEvent → Called
 receivedBy counts e = record { box = boxed (e .state) counts; reply = received (e .answer) }
 
--- `right` tells whether some accepted script has the table: "Start is given a state too and hands it back with 25"
+-- `right` tells whether some accepted script has the table
 module _ (right : Table → Bool) where
   unfoldable pub startCall : Table → Box → Called
-  startCall t b = cond (right t) (answeredBy noCounts (took (startState (t .heads)))) (answeredBy (b .counts) (refused (b .state) BadTable))
+  startCall t b = answeredBy (startCounts (right t) (b .counts)) (startEvent (right t) (t .heads) (b .state))
 
   unfoldable pub called : Table → Call → Box → Called
   called t start b = startCall t b

@@ -9,7 +9,10 @@ use Rattle.language.specs.Limits.{linesLimit, loopLimit, processLimit}
 use Rattle.process.specs.declared.Reading.{Reading}
 use Rattle.process.specs.declared.Process.{Process}
 use Rattle.process.specs.declared.State.{State}
+use Rattle.process.specs.declared.Event.{Event}
+use Rattle.process.specs.declared.Refusal.the-variants.{BadTable}
 use Rattle.process.specs.Waiting.{awake}
+use Rattle.process.specs.Events.{took, refused}
 
 -- a process at its first statement, with no loop open
 abbrev pub startAt : ℕ → ℕ → Process
@@ -36,3 +39,11 @@ startState h = record { processes = startedFrom h 0 processLimit; reading = noRe
 -- "from 0": the counts of all LOG statements
 abbrev pub noCounts : List ℕ
 noCounts = replicate linesLimit 0
+
+-- `right` tells whether some accepted script has the table: "Start is given a state too and hands it back with 25"
+unfoldable pub startEvent : Bool → Heads → State → Event
+startEvent right h s = cond right (took (startState h)) (refused s BadTable)
+
+-- the lent counts after it: "A refusal alters no state and no lent byte"
+unfoldable pub startCounts : Bool → List ℕ → List ℕ
+startCounts right counts = cond right noCounts counts
