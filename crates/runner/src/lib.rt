@@ -1,4 +1,6 @@
 // The runner: the start and the drain, on a lent table, lent counts and a state by value. The four events are `process`'s.
+pub mod draining;
+
 use language::LINES;
 use process::Refusal;
 use process::State;
