@@ -20,7 +20,7 @@ use Rattle.process.specs.Moving.{moved, movedBy, cellAt, astray}
 use Rattle.runner.specs.declared.Outcome.{Outcome}
 use Rattle.runner.specs.declared.Outcome.the-variants.{Quiet, Refused}
 use Rattle.runner.specs.declared.Drained.{Drained}
-use Rattle.runner.specs.Draining.{lowest, turn, bytesOf, outcomeOf, pausedBy, countedBy, does, writes, stateAfter, unaltered, drained, bufferAfter, countsAfter}
+use Rattle.runner.specs.Draining.{lowest, nobody, turn, bytesOf, outcomeOf, pausedBy, countedBy, does, writes, stateAfter, unaltered, drained, bufferAfter, countsAfter}
 use Rattle.runner.specs.Parts.{stepped, idled}
 
 pub idle-small : (s : State) (room : ℕ) → room < 128 → unaltered s (Refused SmallBuffer) ≡ idled s room
@@ -41,6 +41,10 @@ found-inside cells levels p {m} e f = go (ltb (p .place) linesLimit) refl (sym (
         → p .place < linesLimit
     go true e g = ltb-true (p .place) linesLimit e
     go false e g = true-is-false (sym g)
+
+-- the process that the code took is the one whose turn it is
+pub the-turn : (s : State) {i : ℕ} {p : Process} → i ≡ lowest (s .processes) → p ≡ getD (s .processes) i nobody → p ≡ turn s
+the-turn s e f = f ∙ ap (λ (k : ℕ). getD (s .processes) k nobody) e
 
 module _ (cells pool : List ℕ) (s : State) (counts out : List ℕ) where
   -- the answer, and what the lent buffer and the lent counts hold at the end
@@ -104,8 +108,7 @@ module _ (cells pool : List ℕ) (s : State) (counts out : List ℕ) where
           let l = lt-ltb 127 (length out) n in
           let o′ = w .0 ∙ ap₂ (λ (a : ℕ) (y : Cell). outcomeOf (length (bytesOf pool (s .reading) (getD counts a 0) y)) y) at-turn cell-turn in
           let x′ = w .1 ∙ ap₂ (λ (a : ℕ) (y : Cell). sets out 0 (bytesOf pool (s .reading) (getD counts a 0) y)) at-turn cell-turn in
-          let k′ = w .2 ∙ ap₂ (λ (a : ℕ) (y : Cell). set counts a (countedBy (getD counts a 0) y)) at-turn cell-turn in
-          (
+          let k′ = w .2 ∙ ap₂ (λ (a : ℕ) (y : Cell). set counts a (countedBy (getD counts a 0) y)) at-turn cell-turn in (
             ap₂ (λ (y : State) (z : Outcome). record { state = y; outcome = z }) (stated u e) o′ ∙ rw (turned, told true f, l),
             x′ ∙ rw (turned, told true f, l),
             k′ ∙ rw (turned, told true f, l),

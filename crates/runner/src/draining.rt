@@ -5,7 +5,7 @@ ghost use lib.ListN.{length, getD, set};
 ghost use lib.Seq.{sets};
 ghost use Rattle.language.specs.Table.{dataAt};
 ghost use Rattle.record.specs.Logging.{recordOf};
-ghost use Rattle.runner.specs.Draining.{lowest, bytesOf, outcomeOf, pausedBy, countedBy, unaltered, drained, bufferAfter, countsAfter};
+ghost use Rattle.runner.specs.Draining.{lowest, nobody, bytesOf, outcomeOf, pausedBy, countedBy, unaltered, drained, bufferAfter, countsAfter};
 ghost use Rattle.runner.specs.Parts.{stepped, OfWord, idled};
 use crate::Counts;
 use crate::Drained;
@@ -43,6 +43,14 @@ fn lowest_ready(ps: [Process; PROCESSES]) -> usize
         }
     }
     8
+}
+
+// A process by its number.
+fn process_of(ps: [Process; PROCESSES], i: usize) -> Process
+    requires { ⌜ i < 8 ⌝ }
+    ensures { λ r. ⌜ r ≡ getD ps i nobody ⌝ }
+{
+    ps[i]
 }
 
 // ---- what a statement says, and what it writes
@@ -173,7 +181,14 @@ fn write(cell: Cell, pool: &Pool, r: Reading, count: u32, out: &mut [u8]) -> usi
 }
 
 // Does what a cell's statement does besides moving its process on. "Each LOG statement has its own `@c`": by the place of its cell.
-fn perform(cell: Cell, pool: &Pool, r: Reading, at: usize, counts: &mut Counts, out: &mut [u8]) -> Outcome
+fn perform(
+    cell: Cell,
+    pool: &Pool,
+    r: Reading,
+    at: usize,
+    counts: &mut Counts,
+    out: &mut [u8],
+) -> Outcome
     requires { ⌜ (OfWord cell) × (at < 512) × (127 < length (now out)) ⌝ }
     ensures { λ o. ⌜ (o ≡ outcomeOf (length (bytesOf (now (pool .entry)) r (getD (now (counts .entry)) at 0) cell)) cell) × (now (out .exit) ≡ sets (now (out .entry)) 0 (bytesOf (now (pool .entry)) r (getD (now (counts .entry)) at 0) cell)) × (now (counts .exit) ≡ set (now (counts .entry)) at (countedBy (getD (now (counts .entry)) at 0) cell)) ⌝ }
 {
@@ -235,7 +250,7 @@ pub fn drain<'a>(
     if 8 <= i {
         return idle(s, out.len());
     }
-    let p = ps[i];
+    let p = process_of(ps, i);
     let levels = s.levels;
     let m = p.step(cells, levels);
     if m.found {

@@ -1,85 +1,102 @@
+-- `runner::draining::drain` meets its contract: each way out is a law of `Drains`. Assumes nothing.
+use native.Mathlib.Omega.{arith}
+use denote.Ref.{now}
+use Rattle.runner.proofs.Written.{of-word}
+use Rattle.runner.proofs.Drains.{found-inside, the-turn, idle-drains, small-drains, astray-drains, does-drain}
 use borrow.Author.Needs.{needs}
 use Rattle.runner.proofs.draining.drain.Statement.{statement}
 use Rattle.runner.proofs.draining.drain.Tie as tie
-use Rattle.runner.proofs.draining.drain.Reads as reads
-use Rattle.runner.proofs.draining.drain.Lts as lts
-use Rattle.language.proofs.coder.cell_at.Reads as cell-at-reads
-use Rattle.process.proofs.Process.step.Reads as step-reads
-use Rattle.runner.proofs.draining.idle.Reads as idle-reads
-use Rattle.runner.proofs.draining.lowest_ready.Reads as lowest-ready-reads
-use Rattle.runner.proofs.draining.pauses.Reads as pauses-reads
-use Rattle.runner.proofs.draining.perform.Reads as perform-reads
-use Rattle.runner.proofs.draining.refuse.Reads as refuse-reads
-use Rattle.runner.proofs.draining.step_state.Reads as step-state-reads
-use Rattle.runner.proofs.draining.wide.Reads as wide-reads
 
--- src/draining.rt:234:9
 lowest-ready-requires : tie.Need-lowest-ready-requires
 lowest-ready-requires c κs = search needs
 
--- src/draining.rt:236:9
 idle-requires : tie.Need-idle-requires
 idle-requires c κs = search needs
 
--- src/draining.rt:236:9
 returns : tie.Need-returns
-returns c = ?
+returns c =
+    let a = c .before .before .before .before .before .args in
+    idle-drains (now (a .cells)) (now (a .pool)) (a .s) (now (a .counts)) (now (a .out)) (c .before .before .lowest-ready .ensures) (c .before .if1 .taken) (c .idle .ensures)
 
--- src/draining.rt:238:13
-mul-p : tie.Need-mul-p
-mul-p c = search needs
+process-of-requires : tie.Need-process-of-requires
+process-of-requires c κs = search needs
 
--- src/draining.rt:238:13
-array-copy-out-p : tie.Need-array-copy-out-p
-array-copy-out-p c = search needs
-
--- src/draining.rt:240:9
 step-requires : tie.Need-step-requires
 step-requires c κs = search needs
 
--- src/draining.rt:243:13
 refuse-requires : tie.Need-refuse-requires
 refuse-requires c κs = search needs
 
--- src/draining.rt:243:13
 returns-2 : tie.Need-returns-2
-returns-2 c = ?
+returns-2 c =
+    let m = c .before .before .before in
+    let e = m .before .before .before in
+    let a = e .before .before .before .before .args in
+    small-drains (now (a .cells)) (now (a .pool)) (a .s) (now (a .counts)) (now (a .out)) (e .before .lowest-ready .ensures) (e .if1 .left)
+    (the-turn (a .s) (e .before .lowest-ready .ensures) (m .before .before .process-of .ensures))
+    (m .step .ensures)
+    (c .before .before .if2 .taken)
+    (c .before .if3 .taken)
+    (c .refuse .ensures)
 
--- src/draining.rt:245:13
 wide-requires : tie.Need-wide-requires
 wide-requires c κs = search needs
 
--- src/draining.rt:246:13
 cell-at-requires : tie.Need-cell-at-requires
 cell-at-requires c κs = search needs
 
--- src/draining.rt:248:13
 perform-requires : tie.Need-perform-requires
-perform-requires c κs = ?
+perform-requires c κs =
+    let t = c .before .before .before .before .before .before in
+    let m = t .before in
+    let a = m .before .before .before .before .before .before .before .args in
+    let w = c .before .before .before .before in (
+      of-word _ (c .before .before .before .cell-at .ensures),
+      omega (arith, w .wide .ensures, found-inside (now (a .cells)) (a .s .levels) _ (m .step .ensures) (t .if2 .taken)),
+      omega (arith, w .before .if3 .left),
+    )
 
--- src/draining.rt:250:44
 pauses-requires : tie.Need-pauses-requires
 pauses-requires c κs = search needs
 
--- src/draining.rt:250:13
 step-state-requires : tie.Need-step-state-requires
 step-state-requires c κs = search needs
 
--- src/draining.rt:251:9
 same-length : tie.Need-same-length
 same-length c = search needs
 
--- src/draining.rt:251:9
 returns-3 : tie.Need-returns-3
-returns-3 c = ?
+returns-3 c =
+    let v = c .before .before .before .before .before .before .before .before .before in
+    let w = v .before in
+    let t = w .before .before in
+    let m = t .before in
+    let e = m .before .before .before in
+    let a = e .before .before .before .before .args in
+    does-drain (now (a .cells)) (now (a .pool)) (a .s) (now (a .counts)) (now (a .out)) (e .before .lowest-ready .ensures) (e .if1 .left)
+    (the-turn (a .s) (e .before .lowest-ready .ensures) (m .before .before .process-of .ensures))
+    (m .step .ensures)
+    (w .wide .ensures)
+    (v .cell-at .ensures)
+    (t .if2 .taken)
+    (w .before .if3 .left)
+    (c .before .before .before .before .before .perform .ensures)
+    (c .before .pauses .ensures)
+    (c .step-state .ensures)
 
--- src/draining.rt:253:5
 refuse-requires-2 : tie.Need-refuse-requires-2
 refuse-requires-2 c κs = search needs
 
--- src/draining.rt:224:1
 returns-4 : tie.Need-returns-4
-returns-4 c = ?
+returns-4 c =
+    let m = c .before .before in
+    let e = m .before .before .before in
+    let a = e .before .before .before .before .args in
+    astray-drains (now (a .cells)) (now (a .pool)) (a .s) (now (a .counts)) (now (a .out)) (e .before .lowest-ready .ensures) (e .if1 .left)
+    (the-turn (a .s) (e .before .lowest-ready .ensures) (m .before .before .process-of .ensures))
+    (m .step .ensures)
+    (c .before .if2 .left)
+    (c .refuse2 .ensures)
 
 pub drain-spec : {M : Type 1} → statement M
 drain-spec =
@@ -88,8 +105,7 @@ drain-spec =
     lowest-ready-requires
     idle-requires
     returns
-    mul-p
-    array-copy-out-p
+    process-of-requires
     step-requires
     refuse-requires
     returns-2

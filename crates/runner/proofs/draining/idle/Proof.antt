@@ -4,19 +4,13 @@ use Rattle.runner.proofs.Drains.{idle-small, idle-quiet}
 use borrow.Author.Needs.{needs}
 use Rattle.runner.proofs.draining.idle.Statement.{statement}
 use Rattle.runner.proofs.draining.idle.Tie as tie
-use Rattle.runner.proofs.draining.idle.Reads as reads
-use Rattle.runner.proofs.draining.idle.Lts as lts
-use Rattle.runner.proofs.draining.refuse.Reads as refuse-reads
 
--- src/draining.rt:202:9
 refuse-requires : tie.Need-refuse-requires
 refuse-requires c κs = search needs
 
--- src/draining.rt:202:9
 returns : tie.Need-returns
 returns c = c .refuse .ensures ∙ idle-small _ _ (c .before .if1 .taken)
 
--- src/draining.rt:198:1
 returns-2 : tie.Need-returns-2
 returns-2 c = idle-quiet _ _ (c .if1 .left)
 

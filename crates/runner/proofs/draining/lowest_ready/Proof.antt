@@ -8,9 +8,6 @@ use Rattle.runner.specs.Draining.{lowest}
 use Rattle.runner.proofs.Lowest.{lowest-here, lowest-past, lowest-end}
 use Rattle.runner.proofs.draining.lowest_ready.Statement.{statement}
 use Rattle.runner.proofs.draining.lowest_ready.Tie as tie
-use Rattle.runner.proofs.draining.lowest_ready.Reads as reads
-use Rattle.runner.proofs.draining.lowest_ready.Lts as lts
-use Rattle.process.proofs.Process.is_ready.Reads as is-ready-reads
 
 abbrev Inv-loop : tie.InvT-loop
 Inv-loop ps i₀ i = (i ≤ 8) × (lowest ps ≡ i + lowest (drop i ps))
@@ -18,23 +15,18 @@ Inv-loop ps i₀ i = (i ≤ 8) × (lowest ps ≡ i + lowest (drop i ps))
 abbrev μ-loop : tie.MeasureT-loop
 μ-loop ps i₀ i = 8 - i
 
--- src/draining.rt:39:5
 loop-holds : tie.Need-loop-holds Inv-loop μ-loop
 loop-holds c = search needs
 
--- src/draining.rt:40:17
 mul-p : tie.Need-mul-p Inv-loop μ-loop
 mul-p c = search needs
 
--- src/draining.rt:40:17
 array-copy-out-p : tie.Need-array-copy-out-p Inv-loop μ-loop
 array-copy-out-p c = search needs
 
--- src/draining.rt:41:12
 is-ready-requires : tie.Need-is-ready-requires Inv-loop μ-loop
 is-ready-requires c κs = search needs
 
--- src/draining.rt:42:13
 returns : tie.Need-returns Inv-loop μ-loop
 returns c =
     let d = c .before .before .before .before in
@@ -42,15 +34,12 @@ returns c =
     let n : length a ≡ 8 = search needs in
     omega (arith, d .loop .inv .1, lowest-here a (d .loop .i) _ (omega arith) (sym (c .before .is-ready .ensures) ∙ c .if1 .taken))
 
--- src/draining.rt:39:9
 add-i : tie.Need-add-i Inv-loop μ-loop
 add-i c = search needs
 
--- src/draining.rt:39:5
 loop-less : tie.Need-loop-less Inv-loop μ-loop
 loop-less c = search needs
 
--- src/draining.rt:39:5
 loop-again : tie.Need-loop-again Inv-loop μ-loop
 loop-again c =
     let d = c .before .before .before .before in
@@ -58,7 +47,6 @@ loop-again c =
     let n : length a ≡ 8 = search needs in
     (omega arith, omega (arith, d .loop .inv .1, lowest-past a (d .loop .i) _ (omega arith) (sym (c .before .is-ready .ensures) ∙ c .if1 .left)))
 
--- src/draining.rt:36:1
 returns-2 : tie.Need-returns-2 Inv-loop μ-loop
 returns-2 c =
     let d = c .before in

@@ -7,50 +7,35 @@ use Rattle.runner.specs.Draining.{outcomeOf}
 use borrow.Author.Needs.{needs}
 use Rattle.runner.proofs.draining.perform.Statement.{statement}
 use Rattle.runner.proofs.draining.perform.Tie as tie
-use Rattle.runner.proofs.draining.perform.Reads as reads
-use Rattle.runner.proofs.draining.perform.Lts as lts
-use Rattle.runner.proofs.draining.counted.Reads as counted-reads
-use Rattle.runner.proofs.draining.said.Reads as said-reads
-use Rattle.runner.proofs.draining.write.Reads as write-reads
 
--- src/draining.rt:180:17
 mul-count : tie.Need-mul-count
 mul-count c = search needs
 
--- src/draining.rt:180:17
 element-copy-out-count : tie.Need-element-copy-out-count
 element-copy-out-count c = search needs
 
--- src/draining.rt:181:9
 write-requires : tie.Need-write-requires
 write-requires c κs = search needs
 
--- src/draining.rt:182:18
 counted-requires : tie.Need-counted-requires
 counted-requires c κs = search needs
 
--- src/draining.rt:182:5
 mul-counts : tie.Need-mul-counts
 mul-counts c = search needs
 
--- src/draining.rt:182:5
 element-write-counts : tie.Need-element-write-counts
 element-write-counts c = search needs
 
--- src/draining.rt:183:5
 said-requires : tie.Need-said-requires
 said-requires c κs = search needs
 
--- src/draining.rt:176:1
 same-length : tie.Need-same-length
 same-length c = search needs
 
--- src/draining.rt:176:1
 returns : tie.Need-returns
 returns c =
     let w = c .before .before .before .before in
-    let a = c .before .before .before .before .before .before .before .before .args in
-    (
+    let a = c .before .before .before .before .before .before .before .before .args in (
       c .said .ensures ∙ ap (λ (n : ℕ). outcomeOf n (a .cell)) (w .write .ensures .0),
       w .write .ensures .1,
       ap (set (now (a .counts)) (a .at)) (c .before .counted .ensures),

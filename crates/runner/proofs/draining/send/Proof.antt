@@ -6,44 +6,31 @@ use Rattle.runner.proofs.Written.{sent}
 use borrow.Author.Needs.{needs}
 use Rattle.runner.proofs.draining.send.Statement.{statement}
 use Rattle.runner.proofs.draining.send.Tie as tie
-use Rattle.runner.proofs.draining.send.Reads as reads
-use Rattle.runner.proofs.draining.send.Lts as lts
-use Rattle.reader.proofs.writers.put_bytes.Reads as put-bytes-reads
-use Rattle.runner.proofs.draining.wide.Reads as wide-reads
 
--- src/draining.rt:128:9
 wide-requires : tie.Need-wide-requires
 wide-requires c κs = search needs
 
--- src/draining.rt:129:9
 wide-requires-2 : tie.Need-wide-requires-2
 wide-requires-2 c κs = search needs
 
--- src/draining.rt:130:15
 add-end : tie.Need-add-end
 add-end c = search needs
 
--- src/draining.rt:131:23
 sub-put-bytes : tie.Need-sub-put-bytes
 sub-put-bytes c = search needs
 
--- src/draining.rt:131:23
 part-put-bytes-start : tie.Need-part-put-bytes-start
 part-put-bytes-start c = search needs
 
--- src/draining.rt:131:23
 part-put-bytes-end : tie.Need-part-put-bytes-end
 part-put-bytes-end c = search needs
 
--- src/draining.rt:131:5
 put-bytes-requires : tie.Need-put-bytes-requires
 put-bytes-requires c κs = search needs
 
--- src/draining.rt:123:1
 same-length : tie.Need-same-length
 same-length c = search needs
 
--- src/draining.rt:123:1
 returns : tie.Need-returns
 returns c =
     let d = c .before .before .before .before .before in

@@ -7,202 +7,162 @@ use Rattle.runner.proofs.Written.{sent-fits, logged-fits, written-none,
 use borrow.Author.Needs.{needs}
 use Rattle.runner.proofs.draining.write.Statement.{statement}
 use Rattle.runner.proofs.draining.write.Tie as tie
-use Rattle.runner.proofs.draining.write.Reads as reads
-use Rattle.runner.proofs.draining.write.Lts as lts
-use Rattle.runner.proofs.draining.log.Reads as log-reads
-use Rattle.runner.proofs.draining.send.Reads as send-reads
 
--- src/draining.rt:156:26
 enum-told : tie.Need-enum-told
 enum-told c = search needs
 
--- src/draining.rt:157:20
 enum-known-cell : tie.Need-enum-known-cell
 enum-known-cell c = search needs
 
--- src/draining.rt:157:26
 send-requires : tie.Need-send-requires
 send-requires c κs =
     let s = c .before .before .before .before .before in
     let f = sent-fits (s .pre .0) (c .before .before .cell .given .1) in
     (f .inside, omega (arith, f .most, s .pre .1))
 
--- src/draining.rt:158:26
 enum-told-2 : tie.Need-enum-told-2
 enum-told-2 c = search needs
 
--- src/draining.rt:159:22
 enum-told-3 : tie.Need-enum-told-3
 enum-told-3 c = search needs
 
--- src/draining.rt:160:30
 enum-told-4 : tie.Need-enum-told-4
 enum-told-4 c = search needs
 
--- src/draining.rt:161:30
 enum-told-5 : tie.Need-enum-told-5
 enum-told-5 c = search needs
 
--- src/draining.rt:162:30
 enum-told-6 : tie.Need-enum-told-6
 enum-told-6 c = search needs
 
--- src/draining.rt:163:31
 enum-told-7 : tie.Need-enum-told-7
 enum-told-7 c = search needs
 
--- src/draining.rt:164:32
 enum-told-8 : tie.Need-enum-told-8
 enum-told-8 c = search needs
 
--- src/draining.rt:165:25
 enum-told-9 : tie.Need-enum-told-9
 enum-told-9 c = search needs
 
--- src/draining.rt:166:19
 enum-known-cell-2 : tie.Need-enum-known-cell-2
 enum-known-cell-2 c = search needs
 
--- src/draining.rt:166:25
 log-requires : tie.Need-log-requires
 log-requires c κs =
     let s = c .before .before .before .before .before in
     (logged-fits (s .pre .0) (c .before .before .cell2 .given .1) .inside, omega (arith, s .pre .1))
 
--- src/draining.rt:167:26
 enum-told-10 : tie.Need-enum-told-10
 enum-told-10 c = search needs
 
--- src/draining.rt:168:24
 enum-told-11 : tie.Need-enum-told-11
 enum-told-11 c = search needs
 
--- src/draining.rt:169:25
 enum-told-12 : tie.Need-enum-told-12
 enum-told-12 c = search needs
 
--- src/draining.rt:170:22
 enum-told-13 : tie.Need-enum-told-13
 enum-told-13 c = search needs
 
--- src/draining.rt:171:26
 enum-told-14 : tie.Need-enum-told-14
 enum-told-14 c = search needs
 
--- src/draining.rt:151:1
 returns : tie.Need-returns
 unfolding bytesOf
 returns c =
     let a = c .before .before .before .args in
     written-none (now (a .pool)) (a .r) (a .count) (now (a .out)) (c .enum-told .given .1) refl
 
--- src/draining.rt:151:1
 same-length : tie.Need-same-length
 same-length c = search needs
 
--- src/draining.rt:151:1
 returns-2 : tie.Need-returns-2
 unfolding bytesOf
 returns-2 c =
     let a = c .before .before .before .before .before .before .before .before .args in
     written-some (now (a .pool)) (a .r) (a .count) (now (a .out)) (c .before .before .before .before .before .cell .given .1) (c .before .before .send .ensures)
 
--- src/draining.rt:151:1
 returns-3 : tie.Need-returns-3
 unfolding bytesOf
 returns-3 c =
     let a = c .before .before .before .args in
     written-none (now (a .pool)) (a .r) (a .count) (now (a .out)) (c .enum-told2 .given .1) refl
 
--- src/draining.rt:151:1
 returns-4 : tie.Need-returns-4
 unfolding bytesOf
 returns-4 c =
     let a = c .before .before .before .args in
     written-none (now (a .pool)) (a .r) (a .count) (now (a .out)) (c .enum-told3 .given .1) refl
 
--- src/draining.rt:151:1
 returns-5 : tie.Need-returns-5
 unfolding bytesOf
 returns-5 c =
     let a = c .before .before .before .args in
     written-none (now (a .pool)) (a .r) (a .count) (now (a .out)) (c .enum-told4 .given .1) refl
 
--- src/draining.rt:151:1
 returns-6 : tie.Need-returns-6
 unfolding bytesOf
 returns-6 c =
     let a = c .before .before .before .args in
     written-none (now (a .pool)) (a .r) (a .count) (now (a .out)) (c .enum-told5 .given .1) refl
 
--- src/draining.rt:151:1
 returns-7 : tie.Need-returns-7
 unfolding bytesOf
 returns-7 c =
     let a = c .before .before .before .args in
     written-none (now (a .pool)) (a .r) (a .count) (now (a .out)) (c .enum-told6 .given .1) refl
 
--- src/draining.rt:151:1
 returns-8 : tie.Need-returns-8
 unfolding bytesOf
 returns-8 c =
     let a = c .before .before .before .args in
     written-none (now (a .pool)) (a .r) (a .count) (now (a .out)) (c .enum-told7 .given .1) refl
 
--- src/draining.rt:151:1
 returns-9 : tie.Need-returns-9
 unfolding bytesOf
 returns-9 c =
     let a = c .before .before .before .args in
     written-none (now (a .pool)) (a .r) (a .count) (now (a .out)) (c .enum-told8 .given .1) refl
 
--- src/draining.rt:151:1
 returns-10 : tie.Need-returns-10
 unfolding bytesOf
 returns-10 c =
     let a = c .before .before .before .args in
     written-none (now (a .pool)) (a .r) (a .count) (now (a .out)) (c .enum-told9 .given .1) refl
 
--- src/draining.rt:151:1
 same-length-2 : tie.Need-same-length-2
 same-length-2 c = search needs
 
--- src/draining.rt:151:1
 returns-11 : tie.Need-returns-11
 unfolding bytesOf
 returns-11 c =
     let a = c .before .before .before .before .before .before .before .before .args in
     written-some (now (a .pool)) (a .r) (a .count) (now (a .out)) (c .before .before .before .before .before .cell2 .given .1) (c .before .before .log .ensures)
 
--- src/draining.rt:151:1
 returns-12 : tie.Need-returns-12
 unfolding bytesOf
 returns-12 c =
     let a = c .before .before .before .args in
     written-none (now (a .pool)) (a .r) (a .count) (now (a .out)) (c .enum-told10 .given .1) refl
 
--- src/draining.rt:151:1
 returns-13 : tie.Need-returns-13
 unfolding bytesOf
 returns-13 c =
     let a = c .before .before .before .args in
     written-none (now (a .pool)) (a .r) (a .count) (now (a .out)) (c .enum-told11 .given .1) refl
 
--- src/draining.rt:151:1
 returns-14 : tie.Need-returns-14
 unfolding bytesOf
 returns-14 c =
     let a = c .before .before .before .args in
     written-none (now (a .pool)) (a .r) (a .count) (now (a .out)) (c .enum-told12 .given .1) refl
 
--- src/draining.rt:151:1
 returns-15 : tie.Need-returns-15
 unfolding bytesOf
 returns-15 c =
     let a = c .before .before .before .args in
     written-none (now (a .pool)) (a .r) (a .count) (now (a .out)) (c .enum-told13 .given .1) refl
 
--- src/draining.rt:151:1
 returns-16 : tie.Need-returns-16
 unfolding bytesOf
 returns-16 c =
