@@ -2,9 +2,12 @@
 use Prim.Native.Nat.{ℕ, _+_, _%_}
 use mathlib.Core.Bool.{Bool, true, false, cond}
 use mathlib.Core.List.{List, [], _∷_, _++_}
-use lib.ListN.{take}
-use lib.Dec.{eqb}
+use lib.ListN.{length, take}
+use lib.Seq.{sets}
+use lib.Dec.{eqb, leb}
 use Rattle.reader.specs.Put.{decimal, twoDigits}
+use Rattle.reader.specs.declared.Put.{Put}
+use Rattle.reader.specs.declared.Put.the-variants.{Next, NoRoom}
 use Rattle.process.specs.declared.Reading.{Reading}
 
 -- "`@c` shows the count before this record, in decimal with no leading zeros"; "Dates are two digits from the last reading"; `@@ @r
@@ -34,3 +37,11 @@ recordOf r count text = take 127 (writtenOut r count text false)
 -- "4294967295 is followed by 0"
 unfoldable pub nextCount : ℕ → ℕ
 nextCount n = (n + 1) % 4294967296
+
+-- the record put at the start of a lent buffer: the place behind it, or that the buffer has under 127 bytes
+unfoldable pub recordAnswer : Reading → ℕ → List ℕ → List ℕ → Put
+recordAnswer r count text d = cond (leb 127 (length d)) (Next (length (recordOf r count text))) NoRoom
+
+-- what the buffer then holds: one that is too small is left as it is
+unfoldable pub recordInto : Reading → ℕ → List ℕ → List ℕ → List ℕ
+recordInto r count text d = cond (leb 127 (length d)) (sets d 0 (recordOf r count text)) d

@@ -1,1 +1,4 @@
+pub mod Lowest
+pub mod Written
+pub mod Drains
 pub mod Started

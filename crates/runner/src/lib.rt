@@ -1,4 +1,5 @@
 // The runner: the start and the drain, on a lent table, lent counts and a state by value. The four events are `process`'s.
+pub mod draining;
 pub mod starting;
 
 use language::LINES;

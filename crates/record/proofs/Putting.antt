@@ -1,0 +1,80 @@
+-- What the writers of `reader` have put, as the record needs it. Assumes nothing.
+use Prim.Native.Nat.{ℕ, _+_, _-_, _≤_, _<_}
+use mathlib.Core.Path.{_≡_, refl, sym, ap, _∙_}
+use mathlib.Core.Bool.{false}
+use mathlib.Core.List.{List, [], _∷_, _++_}
+use native.Mathlib.Omega.{arith}
+use lib.ListN.{length, take, drop}
+use lib.Seq.{sets, take-all, take-nil, take-at, length-take-le}
+use borrow.Author.Tests.{le-leb, lt-leb}
+use Rattle.reader.specs.Put.{putAnswer, putInto}
+use Rattle.reader.specs.declared.Put.{Put}
+use Rattle.reader.specs.declared.Put.the-variants.{Next, NoRoom}
+use Rattle.reader.proofs.Joined.{put-there, put-length}
+use Rattle.process.specs.declared.Reading.{Reading}
+use Rattle.record.specs.Logging.{writtenOut, recordOf, recordAnswer, recordInto}
+
+-- the same bytes under another name, put whole or cut
+pub put-as : (d : List ℕ) (at : ℕ) {a b : List ℕ} → a ≡ b → {p : Put} {x : List ℕ} → (p ≡ putAnswer a d at) × (x ≡ putInto a d at)
+    → (p ≡ putAnswer b d at) × (x ≡ putInto b d at)
+put-as d at e h = rw e at h
+
+pub cut-as : (d : List ℕ) (at : ℕ) {a b : List ℕ} → a ≡ b → {n : ℕ} {x : List ℕ}
+    → (n ≡ at + length (take (127 - at) a)) × (x ≡ sets d at (take (127 - at) a))
+    → (n ≡ at + length (take (127 - at) b)) × (x ≡ sets d at (take (127 - at) b))
+cut-as d at e h = rw e at h
+
+-- ---- bytes cut at 127
+
+put-sets : (bs d : List ℕ) (at : ℕ) → at + length bs ≤ length d → putInto bs d at ≡ sets d at bs
+unfolding putInto
+put-sets bs d at h = rw (le-leb _ _ h)
+
+module _ (bs d : List ℕ) (at : ℕ) where
+  pub cut-nothing : [] ≡ bs → (at ≡ at + length (take (127 - at) bs)) × (d ≡ sets d at (take (127 - at) bs))
+  cut-nothing e = cut-as d at e (rw (take-nil {A = ℕ} (127 - at)) (omega arith, refl))
+
+  module _ (few : at ≤ 127) (room : 127 ≤ length d) {x : List ℕ} where
+    pub cut-some : 127 - at < length bs → x ≡ putInto (take (127 - at) bs) d at
+        → (127 ≡ at + length (take (127 - at) bs)) × (x ≡ sets d at (take (127 - at) bs))
+    cut-some h e =
+        let l : length (take (127 - at) bs) ≡ 127 - at = length-take-le (127 - at) bs (omega arith) in
+        (omega arith, e ∙ put-sets (take (127 - at) bs) d at (omega arith))
+
+    pub cut-none : length bs ≤ 127 - at → x ≡ putInto bs d at
+        → (at + length bs ≡ at + length (take (127 - at) bs)) × (x ≡ sets d at (take (127 - at) bs))
+    cut-none h e = rw (take-all (127 - at) bs h) (refl, e ∙ put-sets bs d at (omega arith))
+
+-- ---- bytes put at the start of a slice that has room for them
+
+module _ (bs d : List ℕ) (room : length bs ≤ length d) {p : Put} {x : List ℕ} (answer : p ≡ putAnswer bs d 0) (put : x ≡ putInto bs d 0) where
+  there : p ≡ Next (0 + length bs)
+  unfolding putAnswer
+  there = let h : 0 + length bs ≤ length d = omega arith in answer ∙ rw (le-leb _ _ h)
+
+  pub put-long : length x ≡ length d
+  put-long = ap length put ∙ put-length bs d 0
+
+  pub put-end : {n : ℕ} → p ≡ Next n → n ≡ length bs
+  put-end {n} e = let t = there in let s : n ≡ 0 + length bs = cc in omega arith
+
+  pub put-text : {n : ℕ} → p ≡ Next n → take n x ≡ bs
+  put-text {n} e =
+      let h : 0 + length bs ≤ length d = omega arith in
+      ap (take n) (put ∙ put-there bs d 0 h) ∙ take-at bs (drop (0 + length bs) d) n (sym (put-end e))
+
+  pub put-never : p ≡ NoRoom → ⊥
+  put-never e = let t = there in let z : _≡_ {A = ℕ} 0 1 = cc in omega arith
+
+-- ---- the record
+
+module _ (r : Reading) (count : ℕ) (text d : List ℕ) where
+  pub record-small : length d < 127 → (NoRoom ≡ recordAnswer r count text d) × (d ≡ recordInto r count text d)
+  unfolding recordAnswer recordInto
+  record-small h = (rw (lt-leb 127 (length d) h), rw (lt-leb 127 (length d) h))
+
+  pub record-whole : 127 ≤ length d → {n : ℕ} {x : List ℕ}
+      → (n ≡ length (take 127 (writtenOut r count text false))) × (x ≡ sets d 0 (take 127 (writtenOut r count text false)))
+      → (Next n ≡ recordAnswer r count text d) × (x ≡ recordInto r count text d)
+  unfolding recordAnswer recordInto recordOf
+  record-whole h e = (rw (le-leb 127 (length d) h) (ap Next (e .0)), rw (le-leb 127 (length d) h) (e .1))

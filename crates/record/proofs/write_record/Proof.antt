@@ -1,0 +1,89 @@
+-- `record::write_record` meets its contract: each turn of the loop is a law on its state, `Cutting`. Assumes nothing.
+use Prim.Native.Nat.{ℕ, _+_, _-_, _≤_}
+use mathlib.Core.Path.{sym, ap, _∙_}
+use mathlib.Core.Bool.{Bool, false}
+use mathlib.Core.List.{List, _++_}
+use native.Mathlib.Omega.{arith}
+use denote.Ref.{now}
+use lib.ListN.{length, drop, getD, drop-of-length-le}
+use borrow.Author.Needs.{needs}
+use Rattle.record.specs.Logging.{writtenOut}
+use Rattle.record.specs.Pieces.{piece}
+use Rattle.record.proofs.Signs.{piece-at}
+use Rattle.record.proofs.Cutting.{Cutting, begun, cut-on, cut-done}
+use Rattle.record.proofs.Putting.{record-small, record-whole}
+use Rattle.record.proofs.write_record.Statement.{statement}
+use Rattle.record.proofs.write_record.Tie as tie
+
+abbrev Inv-loop : tie.InvT-loop
+Inv-loop text r count out₀ n₀ signed₀ i₀ out n signed i =
+    (127 ≤ length out₀) × Cutting out₀ (writtenOut r count text false) out n (writtenOut r count (drop i text) signed)
+
+abbrev μ-loop : tie.MeasureT-loop
+μ-loop text r count out₀ n₀ signed₀ i₀ out n signed i = length text - i
+
+returns : tie.Need-returns Inv-loop μ-loop
+returns c =
+    let a = c .before .before .before .args in
+    record-small (a .r) (a .count) (now (a .text)) (now (a .out)) (c .if1 .taken)
+
+loop-holds : tie.Need-loop-holds Inv-loop μ-loop
+loop-holds c = (search needs, begun)
+
+shared-slice-read-b : tie.Need-shared-slice-read-b Inv-loop μ-loop
+shared-slice-read-b c = search needs
+
+write-piece-requires : tie.Need-write-piece-requires Inv-loop μ-loop
+write-piece-requires c κs =
+    let i = c .before .before .before .loop .inv in
+    (i .1 .few, omega (arith, i .0, i .1 .long))
+
+begins-sign-requires : tie.Need-begins-sign-requires Inv-loop μ-loop
+begins-sign-requires c κs = search needs
+
+add-i : tie.Need-add-i Inv-loop μ-loop
+add-i c = search needs
+
+loop-less : tie.Need-loop-less Inv-loop μ-loop
+loop-less c = search needs
+
+loop-again : tie.Need-loop-again Inv-loop μ-loop
+loop-again c =
+    let t = c .before .before .before .before .before .before in
+    let l = t .before .loop in
+    let a = t .before .before .before .before .before .args in (
+      l .inv .0,
+      cut-on _ _
+          (piece-at (a .r) (a .count) (now (a .text)) (l .i) (l .signed) (t .loop-test .taken)
+          ∙ ap (λ (s : Bool). piece (a .r) (a .count) (l .signed) (getD (now (a .text)) (l .i) 0) ++ writtenOut (a .r) (a .count) (drop (l .i + 1) (now (a .text))) s) (sym (c .begins-sign .ensures)))
+          (c .before .before .before .write-piece .ensures)
+          (l .inv .1),
+    )
+
+same-length : tie.Need-same-length Inv-loop μ-loop
+same-length c = c .before .loop .inv .1 .long
+
+returns-2 : tie.Need-returns-2 Inv-loop μ-loop
+unfolding writtenOut
+returns-2 c =
+    let a = c .before .before .before .before .before .args in
+    let l = c .before .loop in
+    record-whole (a .r) (a .count) (now (a .text)) (now (a .out)) (l .inv .0)
+    (cut-done (ap (λ (t : List ℕ). writtenOut (a .r) (a .count) t (l .signed)) (drop-of-length-le (now (a .text)) (c .loop-test .left))) (l .inv .1))
+
+pub write-record-spec : {M : Type 1} → statement M
+write-record-spec =
+    tie.close
+    (tie.spec
+    Inv-loop
+    μ-loop
+    returns
+    loop-holds
+    shared-slice-read-b
+    write-piece-requires
+    begins-sign-requires
+    add-i
+    loop-less
+    loop-again
+    same-length
+    returns-2)
