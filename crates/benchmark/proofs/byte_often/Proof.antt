@@ -1,0 +1,50 @@
+-- `benchmark::byte_often` ends: what is left falls. Assumes nothing.
+use native.Mathlib.Omega.{arith}
+use borrow.Author.Needs.{needs}
+use Rattle.benchmark.proofs.byte_often.Statement.{statement}
+use Rattle.benchmark.proofs.byte_often.Tie as tie
+
+abbrev Inv-loop : tie.InvT-loop
+Inv-loop pool heads count state₀ left₀ sum₀ state left sum = Unit {0}
+
+abbrev μ-loop : tie.MeasureT-loop
+μ-loop pool heads count state₀ left₀ sum₀ state left sum = left
+
+loop-holds : tie.Need-loop-holds Inv-loop μ-loop
+loop-holds c = search needs
+
+sub-left : tie.Need-sub-left Inv-loop μ-loop
+sub-left c = search needs
+
+cast-do-byte : tie.Need-cast-do-byte Inv-loop μ-loop
+cast-do-byte c = search needs
+
+do-byte-requires : tie.Need-do-byte-requires Inv-loop μ-loop
+do-byte-requires c κs = search needs
+
+wrapping-add-u64-requires : tie.Need-wrapping-add-u64-requires Inv-loop μ-loop
+wrapping-add-u64-requires c κs = search needs
+
+loop-less : tie.Need-loop-less Inv-loop μ-loop
+loop-less c = omega arith
+
+loop-again : tie.Need-loop-again Inv-loop μ-loop
+loop-again c = search needs
+
+returns : tie.Need-returns Inv-loop μ-loop
+returns c = search needs
+
+pub byte-often-spec : {M : Type 1} → statement M
+byte-often-spec =
+    tie.close
+    (tie.spec
+    Inv-loop
+    μ-loop
+    loop-holds
+    sub-left
+    cast-do-byte
+    do-byte-requires
+    wrapping-add-u64-requires
+    loop-less
+    loop-again
+    returns)

@@ -1,0 +1,252 @@
+// Does one thing many times, to be timed from outside, and prints what came of it.
+//   benchmark compile SCRIPT N    compiles the script N thousand times
+//   benchmark byte SCRIPT N       starts the script, drains it until it is quiet, and has it take N thousand bytes
+//   benchmark tick SCRIPT N       the same with ticks
+//   benchmark drain SCRIPT N      starts the script and does N thousand drains, with a tick whenever it is quiet
+use compiler::compile;
+use language::Answer;
+use language::Cells;
+use language::Heads;
+use language::Pool;
+use language::Table;
+use libc::STDOUT_FILENO;
+use process::Process;
+use process::Reading;
+use process::Received;
+use process::State;
+use process::Taken;
+use process::Wait;
+use process::events::tick;
+use process::receiving::receive;
+use reader::Number;
+use reader::numbers::number;
+use reader::words::is_named;
+use runner::Counts;
+use runner::Outcome;
+use runner::draining::drain;
+use runner::starting::start;
+
+fn wide(n: u32) -> u64 {
+    n as u64
+}
+
+// A process that is over, and a state of such: what a start is given, which it does not look at.
+fn over() -> Process {
+    Process {
+        place: 0,
+        end: 0,
+        depth: 0,
+        left: [0; 8],
+        back: [0; 8],
+        wait: Wait::Over,
+    }
+}
+
+fn idle() -> State {
+    State {
+        processes: [over(); 8],
+        reading: Reading {
+            year: 0,
+            month: 1,
+            day: 1,
+            hour: 0,
+            minute: 0,
+            second: 0,
+        },
+        levels: [false; 5],
+        paused: false,
+    }
+}
+
+fn stretch(text: &[u8]) -> u64 {
+    let compiled = compile(text);
+    let answer = compiled.answer;
+    match answer {
+        Answer::Accepted(n) => wide(n),
+        Answer::Refused(_, line) => wide(line),
+    }
+}
+
+fn compile_often(text: &[u8], count: u64) -> u64 {
+    let mut last = 0u64;
+    let mut left = count;
+    while 0 < left {
+        left -= 1;
+        last = stretch(text);
+    }
+    last
+}
+
+// The state after a call, and 1 if it was taken or a statement done.
+struct Done {
+    state: State,
+    one: u64,
+}
+
+fn do_byte(pool: &Pool, heads: Heads, s: State, b: u8) -> Done {
+    let e = receive(pool, heads, s, b);
+    let state = e.state;
+    let answer = e.answer;
+    match answer {
+        Received::Took(_) => Done { state, one: 1 },
+        Received::Refused(_) => Done { state, one: 0 },
+    }
+}
+
+fn do_tick(s: State) -> Done {
+    let e = tick(s);
+    let state = e.state;
+    let answer = e.answer;
+    match answer {
+        Taken::Took => Done { state, one: 1 },
+        Taken::Refused(_) => Done { state, one: 0 },
+    }
+}
+
+fn do_drain<'a>(
+    cells: &'a Cells,
+    pool: &'a Pool,
+    s: State,
+    counts: &mut Counts,
+    out: &mut [u8; 128],
+) -> Done {
+    let d = drain(cells, pool, s, counts, out);
+    let state = d.state;
+    let outcome = d.outcome;
+    match outcome {
+        Outcome::Quiet => Done { state, one: 0 },
+        Outcome::Refused(_) => Done { state, one: 0 },
+        Outcome::Sent(_) => Done { state, one: 1 },
+        Outcome::Recorded(_) => Done { state, one: 1 },
+        Outcome::Rts(_) => Done { state, one: 1 },
+        Outcome::Fchange => Done { state, one: 1 },
+        Outcome::Pause => Done { state, one: 1 },
+        Outcome::Resume => Done { state, one: 1 },
+        Outcome::Plain => Done { state, one: 1 },
+    }
+}
+
+// A drain, and a tick where it was quiet.
+fn do_or_tick<'a>(
+    cells: &'a Cells,
+    pool: &'a Pool,
+    s: State,
+    counts: &mut Counts,
+    out: &mut [u8; 128],
+) -> Done {
+    let done = do_drain(cells, pool, s, counts, out);
+    if done.one == 0 {
+        let state = done.state;
+        let ticked = do_tick(state);
+        let next = ticked.state;
+        return Done {
+            state: next,
+            one: 0,
+        };
+    }
+    done
+}
+
+// Drains; how many of them did a statement.
+fn drain_often<'a>(
+    cells: &'a Cells,
+    pool: &'a Pool,
+    s: State,
+    counts: &mut Counts,
+    count: u64,
+) -> Done {
+    let mut out = [0u8; 128];
+    let mut state = s;
+    let mut left = count;
+    let mut sum = 0u64;
+    while 0 < left {
+        left -= 1;
+        let done = do_or_tick(cells, pool, state, counts, &mut out);
+        let next = done.state;
+        state = next;
+        sum = std::num::wrapping_add_u64(sum, done.one);
+    }
+    Done { state, one: sum }
+}
+
+fn byte_often(pool: &Pool, heads: Heads, s: State, count: u64) -> u64 {
+    let mut state = s;
+    let mut left = count;
+    let mut sum = 0u64;
+    while 0 < left {
+        left -= 1;
+        let done = do_byte(pool, heads, state, (left % 256) as u8);
+        let next = done.state;
+        state = next;
+        sum = std::num::wrapping_add_u64(sum, done.one);
+    }
+    sum
+}
+
+fn tick_often(s: State, count: u64) -> u64 {
+    let mut state = s;
+    let mut left = count;
+    let mut sum = 0u64;
+    while 0 < left {
+        left -= 1;
+        let done = do_tick(state);
+        let next = done.state;
+        state = next;
+        sum = std::num::wrapping_add_u64(sum, done.one);
+    }
+    sum
+}
+
+// What is done with a script that was started.
+fn run(what: &[u8], table: Table, count: u64) -> u64 {
+    let cells = table.cells;
+    let pool = table.pool;
+    let heads = table.heads;
+    let mut counts = [0u32; 512];
+    let e = start(&cells, &pool, heads, idle(), &mut counts);
+    let state = e.state;
+    if is_named(what, 0, what.len(), b"drain") {
+        let drained = drain_often(&cells, &pool, state, &mut counts, count);
+        return drained.one;
+    }
+    let quiet = drain_often(&cells, &pool, state, &mut counts, 100);
+    let next = quiet.state;
+    if is_named(what, 0, what.len(), b"byte") {
+        return byte_often(&pool, heads, next, count);
+    }
+    tick_often(next, count)
+}
+
+fn on_text(what: &[u8], text: &[u8], count: u64) -> u64 {
+    if is_named(what, 0, what.len(), b"compile") {
+        return compile_often(text, count);
+    }
+    let compiled = compile(text);
+    run(what, compiled.table, count)
+}
+
+fn thousands(text: &[u8]) -> u64 {
+    let read = number(text, 0, 5, 99999);
+    match read {
+        Number::Value(n, _) => {
+            let k = wide(n);
+            if k < 100000 { k * 1000 } else { 0 }
+        }
+        Number::Bad(_) => 0,
+    }
+}
+
+fn main() {
+    let mut what = io::buffer();
+    let mut path = io::buffer();
+    let mut times = io::buffer();
+    let mut text = [0u8; 65537];
+    let a = os::arg(1, &mut what);
+    let b = os::arg(2, &mut path);
+    let c = os::arg(3, &mut times);
+    let script = os::open_read(&path[..b]);
+    let n = io::read_full(script, &mut text);
+    let result = on_text(&what[..a], &text[..n], thousands(&times[..c]));
+    io::print_decimal(STDOUT_FILENO, result);
+    io::write_all(STDOUT_FILENO, b"\n");
+}
