@@ -4,5 +4,6 @@ pub mod Texts
 pub mod Clocking
 pub mod Stating
 pub mod Lining
+pub mod Bodies
 pub mod Setting
 pub mod Listing

@@ -18,7 +18,7 @@ use Rattle.accepted.proofs.Exactly.{laid-out, script-right}
 use Rattle.lister.specs.declared.Wrong.the-variants.{BadTable, NoRoom}
 use Rattle.lister.specs.declared.Listed.{Listed}
 use Rattle.lister.specs.declared.Listed.the-variants.{Wrote, Refused}
-use Rattle.lister.specs.Printed.{longest, Printed}
+use Rattle.lister.specs.Printed.{longest, Within, Printed}
 use Rattle.lister.specs.Listed.{listingOf, listAnswer, listInto}
 
 module _ (t : Table) (right : tableRight t ≡ true) where
@@ -27,6 +27,9 @@ module _ (t : Table) (right : tableRight t ≡ true) where
 
   pub listing-few : length (listingOf t) ≤ longest
   listing-few = listing-size stretchOf (scriptOf t) is-good
+
+  pub listing-room : Within 0 (listingOf t)
+  listing-room = record { fits = omega (arith, listing-few) }
 
   pub omits-few : t .heads .omits ≤ omitLimit
   unfolding laidOut headsOf

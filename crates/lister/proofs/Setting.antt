@@ -62,6 +62,10 @@ letters-inside e {n} is = let l : n ≡ length (take n e) = letters-count e is i
 pub letters-are : (e : List ℕ) {n : ℕ} → n ≡ length (lettersOf e) → take n e ≡ lettersOf e
 letters-are e is = rw is (letters-first e)
 
+-- the line of OMIT
+abbrev pub omitLine : List ℕ → List ℕ
+omitLine o = joined (when (not (same o [])) (ascii "#f:OMIT :" ++ hexText o))
+
 module _ (h : Heads) where
   -- the line of each setting, or nothing
   abbrev pub encodeText : List ℕ
@@ -71,7 +75,10 @@ module _ (h : Heads) where
   stopbitsText = joined (when (h .«two_stop_bits») (ascii "#f:STOPBITS 2"))
 
   abbrev pub omitText : List ℕ
-  omitText = joined (when (not (same (take (h .omits) (h .omit)) [])) (ascii "#f:OMIT :" ++ hexText (take (h .omits) (h .omit))))
+  omitText = omitLine (take (h .omits) (h .omit))
+
+  pub omit-is : {n : ℕ} → n ≡ h .omits → omitLine (take n (h .omit)) ≡ omitText
+  omit-is e = ap (λ (n : ℕ). omitLine (take n (h .omit))) e
 
   abbrev pub lfextText : List ℕ
   lfextText = joined (when (not (same (lettersOf (h .extension)) (ascii "LOG"))) (ascii "#f:LFEXT " ++ lettersOf (h .extension)))

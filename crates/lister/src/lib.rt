@@ -1,8 +1,7 @@
 // Table to listing: the lines of the settings, then those of the processes, "CR LF after each line".
 ghost use mathlib.Core.Path.{_≡_};
 ghost use Prim.Native.Nat.{_≤_};
-ghost use lib.ListN.{length};
-ghost use Rattle.lister.specs.Printed.{longest, Printed};
+ghost use Rattle.lister.specs.Printed.{Within, Printed};
 ghost use Rattle.lister.specs.Listed.{listingOf, listAnswer, listInto};
 use accepted::is_accepted;
 use language::Cells;
@@ -32,7 +31,7 @@ pub enum Listed {
 
 // Writes the listing as far as the buffer goes: how many bytes it has.
 fn print<'a>(cells: &'a Cells, pool: &'a Pool, heads: Heads, out: &mut [u8]) -> usize
-    requires { ⌜ (heads .omits ≤ 10) × (length (listingOf (record { cells = now cells; pool = now pool; heads = heads })) ≤ longest) ⌝ }
+    requires { ⌜ (heads .omits ≤ 10) × Within 0 (listingOf (record { cells = now cells; pool = now pool; heads = heads })) ⌝ }
     ensures { λ r. ⌜ Printed (listingOf (record { cells = now (cells .entry); pool = now (pool .entry); heads = heads })) (now (out .entry)) 0 r (now (out .exit)) ⌝ }
 {
     let next = settings::settings(out, 0, heads);

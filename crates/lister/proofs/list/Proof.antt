@@ -1,7 +1,15 @@
 -- `lister::list` meets its contract. Assumes nothing.
+use denote.Ref.{now}
+use mathlib.Core.Path.{sym, _∙_}
+use Rattle.language.specs.declared.Table.{Table}
+use Rattle.lister.proofs.Listing.{omits-few, listing-room, bad-table, no-room, wrote}
 use borrow.Author.Needs.{needs}
 use Rattle.lister.proofs.list.Statement.{statement}
 use Rattle.lister.proofs.list.Tie as tie
+
+-- the table that is lent
+abbrev table : tie.Start → Table
+table s = record { cells = now (s .args .cells); pool = now (s .args .pool); heads = s .args .heads }
 
 is-accepted-requires : tie.Need-is-accepted-requires
 is-accepted-requires c κs = search needs
@@ -10,22 +18,24 @@ slice-aggregate-print : tie.Need-slice-aggregate-print
 slice-aggregate-print c = search needs
 
 print-requires : tie.Need-print-requires
-print-requires c κs = ?
+print-requires c κs = let t = table (c .before .before .before .before) in
+    (omits-few t (sym (c .before .before .is-accepted .ensures) ∙ c .before .if1 .taken), listing-room t (sym (c .before .before .is-accepted .ensures) ∙ c .before .if1 .taken))
 
 returns : tie.Need-returns
-returns c = ?
+returns c = no-room (table (c .before .before .before .before .before .before .before)) _ (c .before .before .before .before .before .is-accepted .ensures) (c .before .before .before .before .if1 .taken) (c .before .before .print .ensures) (c .if2 .taken)
 
 print-requires-2 : tie.Need-print-requires-2
-print-requires-2 c κs = ?
+print-requires-2 c κs = let t = table (c .before .before .before .before .before .before .before .before) in
+    (omits-few t (sym (c .before .before .before .before .before .before .is-accepted .ensures) ∙ c .before .before .before .before .before .if1 .taken), listing-room t (sym (c .before .before .before .before .before .before .is-accepted .ensures) ∙ c .before .before .before .before .before .if1 .taken))
 
 same-length : tie.Need-same-length
 same-length c = search needs
 
 returns-2 : tie.Need-returns-2
-returns-2 c = ?
+returns-2 c = wrote (table (c .before .before .before .before .before .before .before .before .before .before .before)) _ (c .before .before .before .before .before .before .before .before .before .is-accepted .ensures) (c .before .before .before .before .before .before .before .before .if1 .taken) (c .before .before .before .before .before .before .print .ensures) (c .before .before .before .before .if2 .left) (c .before .before .print2 .ensures)
 
 returns-3 : tie.Need-returns-3
-returns-3 c = ?
+returns-3 c = bad-table (table (c .before .before .before)) _ (c .before .is-accepted .ensures) (c .if1 .left)
 
 pub list-spec : {M : Type 1} → statement M
 list-spec =

@@ -1,13 +1,27 @@
 -- `lister::body::body` meets its contract. Assumes nothing.
+use denote.Ref.{now}
+use Prim.Native.Nat.{_<_}
+use mathlib.Core.Path.{_≡_, sym}
+use lib.ListN.{length}
+use Rattle.lister.proofs.Printing.{printed-none, printed-is}
+use Rattle.lister.proofs.Lining.{no-processes}
+use Rattle.lister.proofs.Bodies.{line-room, cells-room, others-room, body-printed}
 use borrow.Author.Needs.{needs}
 use Rattle.lister.proofs.body.body.Statement.{statement}
 use Rattle.lister.proofs.body.body.Tie as tie
+
+some-cells : (w : tie.After-words) → 0 < length (now (w .before .before .args .cells))
+some-cells w = search needs
+
+all-ends : (w : tie.After-words) → length (w .before .before .args .heads .ends) ≡ 8
+all-ends w = search needs
 
 cast-processes : tie.Need-cast-processes
 cast-processes c = search needs
 
 returns : tie.Need-returns
-returns c = ?
+returns c = let s = c .before .before .before .before .before in
+    printed-is (sym (no-processes (now (s .args .pool)) (now (s .args .cells)) (s .args .heads .ends) (c .if1 .taken))) printed-none
 
 array-read-wide : tie.Need-array-read-wide
 array-read-wide c = search needs
@@ -19,22 +33,26 @@ first-empty-requires : tie.Need-first-empty-requires
 first-empty-requires c κs = search needs
 
 first-line-requires : tie.Need-first-line-requires
-first-line-requires c κs = ?
+first-line-requires c κs = let s = c .before .before .before .before .before .before .before .before in
+    line-room (now (s .args .pool)) (now (s .args .cells)) (s .args .heads) (some-cells (c .before .before .before .before .before .before)) (all-ends (c .before .before .before .before .before .before)) (c .before .before .before .if1 .left) (c .before .before .wide .ensures) (c .first-empty .ensures) (s .pre)
 
 cell-lines-requires : tie.Need-cell-lines-requires
-cell-lines-requires c κs = ?
+cell-lines-requires c κs = let s = c .before .before .before .before .before .before .before .before .before .before .before .before in
+    cells-room (now (s .args .pool)) (now (s .args .cells)) (s .args .heads) (some-cells (c .before .before .before .before .before .before .before .before .before .before)) (all-ends (c .before .before .before .before .before .before .before .before .before .before)) (c .before .before .before .before .before .before .before .if1 .left) (c .before .before .before .before .before .before .wide .ensures) (c .before .before .before .before .first-empty .ensures) (s .pre) (c .before .before .before .first-line .ensures)
 
 slice-aggregate-others : tie.Need-slice-aggregate-others
 slice-aggregate-others c = search needs
 
 others-requires : tie.Need-others-requires
-others-requires c κs = ?
+others-requires c κs = let s = c .before .before .before .before .before .before .before .before .before .before .before .before .before .before .before .before .before in
+    others-room (now (s .args .pool)) (now (s .args .cells)) (s .args .heads) (some-cells (c .before .before .before .before .before .before .before .before .before .before .before .before .before .before .before)) (all-ends (c .before .before .before .before .before .before .before .before .before .before .before .before .before .before .before)) (c .before .before .before .before .before .before .before .before .before .before .before .before .if1 .left) (c .before .before .before .before .before .before .before .before .before .before .before .wide .ensures) (c .before .before .before .before .before .before .before .before .before .first-empty .ensures) (s .pre) (c .before .before .before .before .before .before .before .before .first-line .ensures) (c .before .before .before .before .cell-lines .ensures)
 
 same-length : tie.Need-same-length
 same-length c = search needs
 
 returns-2 : tie.Need-returns-2
-returns-2 c = ?
+returns-2 c = let s = c .before .before .before .before .before .before .before .before .before .before .before .before .before .before .before .before .before .before .before .before in
+    body-printed (now (s .args .pool)) (now (s .args .cells)) (s .args .heads) (some-cells (c .before .before .before .before .before .before .before .before .before .before .before .before .before .before .before .before .before .before)) (all-ends (c .before .before .before .before .before .before .before .before .before .before .before .before .before .before .before .before .before .before)) (c .before .before .before .before .before .before .before .before .before .before .before .before .before .before .before .if1 .left) (c .before .before .before .before .before .before .before .before .before .before .before .before .before .before .wide .ensures) (c .before .before .before .before .before .before .before .before .before .before .before .before .first-empty .ensures) (s .pre) (c .before .before .before .before .before .before .before .before .before .before .before .first-line .ensures) (c .before .before .before .before .before .before .before .cell-lines .ensures) (c .before .before .others .ensures)
 
 pub body-spec : {M : Type 1} → statement M
 body-spec =

@@ -47,7 +47,8 @@ same-length-2 : tie.Need-same-length-2 Inv-loop μ-loop
 same-length-2 c = c .before .loop .inv .long
 
 returns-2 : tie.Need-returns-2 Inv-loop μ-loop
-returns-2 c = printed (cells-past _ _ _ _ (c .loop-test .left)) (c .before .loop .inv)
+returns-2 c = let a = c .before .before .before .before .args in
+    printed (cells-past (now (a .pool)) (now (a .cells)) (a .end) (c .before .loop .i) (c .loop-test .left)) (c .before .loop .inv)
 
 pub cell-lines-spec : {M : Type 1} → statement M
 cell-lines-spec =

@@ -1,52 +1,67 @@
--- `lister::body::others` meets its contract. Assumes nothing.
+-- `lister::body::others` meets its contract: the ends from i on are left. Assumes nothing.
+use Prim.Native.Nat.{_-_}
+use denote.Ref.{now}
+use lib.ListN.{length}
+use Rattle.lister.proofs.Printing.{Printing, begun, printed, left-is, next-room, went-on}
+use Rattle.lister.proofs.Lining.{others, others-on, others-enough, others-past}
 use borrow.Author.Needs.{needs}
 use Rattle.lister.proofs.body.others.Statement.{statement}
 use Rattle.lister.proofs.body.others.Tie as tie
 
 abbrev Inv-loop : tie.InvT-loop
-Inv-loop out₀ at cells pool ends processes first place₀ from₀ i₀ out place from i = ?
+Inv-loop out₀ at cells pool ends processes first place₀ from₀ i₀ out place from i = Printing (others pool cells ends processes first 1) out₀ at out place (others pool cells ends processes from i)
 
 abbrev μ-loop : tie.MeasureT-loop
-μ-loop out₀ at cells pool ends processes first place₀ from₀ i₀ out place from i = ?
+μ-loop out₀ at cells pool ends processes first place₀ from₀ i₀ out place from i = length ends - i
 
 loop-holds : tie.Need-loop-holds Inv-loop μ-loop
-loop-holds c = ?
+loop-holds c = begun
 
 same-length : tie.Need-same-length Inv-loop μ-loop
-same-length c = ?
+same-length c = c .before .before .loop .inv .long
 
 returns : tie.Need-returns Inv-loop μ-loop
-returns c = ?
+returns c = let w = c .before .before in
+    let a = c .before .before .before .before .before .args in
+    printed (others-enough (now (a .pool)) (now (a .cells)) (now (a .ends)) (a .processes) (w .loop .from) (w .loop .i) (c .if1 .taken)) (w .loop .inv)
 
 mul-wide : tie.Need-mul-wide Inv-loop μ-loop
-mul-wide c = ?
+mul-wide c = search needs
 
 shared-slice-read-wide : tie.Need-shared-slice-read-wide Inv-loop μ-loop
-shared-slice-read-wide c = ?
+shared-slice-read-wide c = search needs
 
 wide-requires : tie.Need-wide-requires Inv-loop μ-loop
-wide-requires c κs = ?
+wide-requires c κs = search needs
 
 process-line-requires : tie.Need-process-line-requires Inv-loop μ-loop
-process-line-requires c κs = ?
+process-line-requires c κs = let w = c .before .before .before .before .before in
+    let a = c .before .before .before .before .before .before .before .before .args in
+    next-room _ _ (left-is (others-on (now (a .pool)) (now (a .cells)) (now (a .ends)) (a .processes) (w .loop .from) (w .loop .i) (c .before .before .before .before .loop-test .taken) (c .before .before .before .if1 .left) (c .before .wide .ensures)) (w .loop .inv)) (c .before .before .before .before .before .before .before .before .pre)
 
 cell-lines-requires : tie.Need-cell-lines-requires Inv-loop μ-loop
-cell-lines-requires c κs = ?
+cell-lines-requires c κs = let w = c .before .before .before .before .before .before .before .before .before in
+    let a = c .before .before .before .before .before .before .before .before .before .before .before .before .args in
+    next-room _ _ (went-on _ _ (left-is (others-on (now (a .pool)) (now (a .cells)) (now (a .ends)) (a .processes) (w .loop .from) (w .loop .i) (c .before .before .before .before .before .before .before .before .loop-test .taken) (c .before .before .before .before .before .before .before .if1 .left) (c .before .before .before .before .before .wide .ensures)) (w .loop .inv)) (c .before .before .before .process-line .ensures)) (c .before .before .before .before .before .before .before .before .before .before .before .before .pre)
 
 add-i : tie.Need-add-i Inv-loop μ-loop
-add-i c = ?
+add-i c = search needs
 
 loop-less : tie.Need-loop-less Inv-loop μ-loop
-loop-less c = ?
+loop-less c = search needs
 
 loop-again : tie.Need-loop-again Inv-loop μ-loop
-loop-again c = ?
+loop-again c = let w = c .before .before .before .before .before .before .before .before .before .before .before .before in
+    let a = c .before .before .before .before .before .before .before .before .before .before .before .before .before .before .before .args in
+    went-on _ _ (went-on _ _ (left-is (others-on (now (a .pool)) (now (a .cells)) (now (a .ends)) (a .processes) (w .loop .from) (w .loop .i) (c .before .before .before .before .before .before .before .before .before .before .before .loop-test .taken) (c .before .before .before .before .before .before .before .before .before .before .if1 .left) (c .before .before .before .before .before .before .before .before .wide .ensures)) (w .loop .inv)) (c .before .before .before .before .before .before .process-line .ensures)) (c .before .before .cell-lines .ensures)
 
 same-length-2 : tie.Need-same-length-2 Inv-loop μ-loop
-same-length-2 c = ?
+same-length-2 c = c .before .loop .inv .long
 
 returns-2 : tie.Need-returns-2 Inv-loop μ-loop
-returns-2 c = ?
+returns-2 c = let w = c .before in
+    let a = c .before .before .before .before .args in
+    printed (others-past (now (a .pool)) (now (a .cells)) (now (a .ends)) (a .processes) (w .loop .from) (w .loop .i) (c .loop-test .left)) (w .loop .inv)
 
 pub others-spec : {M : Type 1} → statement M
 others-spec =
