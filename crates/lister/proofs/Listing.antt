@@ -1,7 +1,7 @@
 -- A LISTING HAS AT MOST 13,670 BYTES, so that a buffer of LISTING bytes is never refused with 26; and the ways out of the lister.
 -- Assumes nothing.
-use Prim.Native.Nat.{ℕ, _+_, _≤_, _<_}
-use mathlib.Core.Path.{_≡_, refl, sym, ap, _∙_}
+use Prim.Native.Nat.{ℕ, _≤_, _<_}
+use mathlib.Core.Path.{_≡_, sym, ap, _∙_}
 use mathlib.Core.Bool.{Bool, true, false}
 use mathlib.Core.List.{List}
 use native.Mathlib.Omega.{arith}
@@ -16,7 +16,6 @@ use Rattle.language.proofs.Size.{listing-size}
 use Rattle.accepted.specs.Accepted.{tableRight}
 use Rattle.accepted.proofs.Exactly.{laid-out, script-right}
 use Rattle.lister.specs.declared.Wrong.the-variants.{BadTable, NoRoom}
-use Rattle.lister.specs.declared.Listed.{Listed}
 use Rattle.lister.specs.declared.Listed.the-variants.{Wrote, Refused}
 use Rattle.lister.specs.Printed.{longest, Within, Printed}
 use Rattle.lister.specs.Listed.{listingOf, listAnswer, listInto}

@@ -1,14 +1,14 @@
 -- What is written one after the other is written together. Assumes nothing.
-use Prim.Native.Nat.{ℕ, suc, _+_, _≤_, _<_}
-use mathlib.Core.Path.{_≡_, refl, sym, ap, _∙_}
+use Prim.Native.Nat.{ℕ, _+_, _<_}
+use mathlib.Core.Path.{_≡_, refl, ap, _∙_}
 use mathlib.Core.Bool.{Bool, true, false, cond}
 use mathlib.Core.List.{List, [], _∷_, _++_}
 use native.Mathlib.Numerals.{add-one}
 use native.Mathlib.Omega.{arith}
-use lib.ListN.{length, take, drop, getD, set, length-set, length-append, drop-of-length-le}
+use lib.ListN.{length, drop, getD, set, length-append}
 use lib.Seq.{drop-cons, sets, length-sets}
 use Rattle.reader.proofs.Joined.{sets-append}
-use Rattle.lister.specs.Printed.{longest, Within, Printed}
+use Rattle.lister.specs.Printed.{Within, Printed}
 
 -- nothing written
 pub printed-none : {d : List ℕ} {at : ℕ} → Printed [] d at at d

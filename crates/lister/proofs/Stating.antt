@@ -1,13 +1,12 @@
 -- The line of a word, by the cell that it says. Assumes nothing.
-use Prim.Native.Nat.{ℕ, _+_, _≤_}
+use Prim.Native.Nat.{ℕ, _≤_}
 use mathlib.Core.Path.{_≡_, sym, ap, _∙_}
 use mathlib.Core.List.{List}
 use native.Mathlib.Omega.{arith}
-use lib.ListN.{length}
 use borrow.Author.Tests.{leb-true}
 use Rattle.language.specs.declared.Level.{Level}
 use Rattle.language.specs.declared.Cell.{Cell}
-use Rattle.language.specs.declared.Cell.the-variants.{WaitSignal, Unknown}
+use Rattle.language.specs.declared.Cell.the-variants.{WaitSignal}
 use Rattle.language.specs.Listing.{lineFor}
 use Rattle.language.specs.Cell.{decoded, cellRight}
 use Rattle.language.specs.Table.{statementOf}

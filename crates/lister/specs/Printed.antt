@@ -5,9 +5,7 @@ use mathlib.Core.Bool.{Bool, cond}
 use mathlib.Core.List.{List, [], _∷_, _++_}
 use lib.ListN.{length}
 use lib.Seq.{sets, slice}
-use Rattle.language.specs.declared.Cell.{Cell}
 use Rattle.language.specs.declared.Heads.{Heads}
-use Rattle.language.specs.declared.Table.{Table}
 use Rattle.language.specs.Script.{Item, next}
 use Rattle.language.specs.Listing.{lineFor, itemLines, joined, settingLines, bodyLines}
 use Rattle.language.specs.Cell.{decoded}

@@ -2,7 +2,6 @@
 ghost use mathlib.Core.Path.{_≡_};
 ghost use mathlib.Core.List.{_++_};
 ghost use Prim.Native.Nat.{_+_, _≤_};
-ghost use lib.ListN.{length};
 ghost use Rattle.reader.specs.Ascii.{ascii};
 ghost use Rattle.reader.specs.Bytes.{all};
 ghost use Rattle.language.specs.Clock.{clockLetter, clockText};

@@ -3,7 +3,7 @@ ghost use mathlib.Core.Path.{_≡_};
 ghost use mathlib.Core.Bool.{cond, not};
 ghost use mathlib.Core.List.{[], _++_};
 ghost use Prim.Native.Nat.{_≤_};
-ghost use lib.ListN.{length, take};
+ghost use lib.ListN.{length};
 ghost use Rattle.reader.specs.Ascii.{ascii};
 ghost use Rattle.reader.specs.Bytes.{same};
 ghost use Rattle.reader.specs.Hex.{hexText};

@@ -18,21 +18,40 @@ slice-aggregate-print : tie.Need-slice-aggregate-print
 slice-aggregate-print c = search needs
 
 print-requires : tie.Need-print-requires
-print-requires c κs = let t = table (c .before .before .before .before) in
-    (omits-few t (sym (c .before .before .is-accepted .ensures) ∙ c .before .if1 .taken), listing-room t (sym (c .before .before .is-accepted .ensures) ∙ c .before .if1 .taken))
+print-requires c κs =
+    let a = c .before .before in
+    let b = a .before .before in
+    let t = table b in
+    (omits-few t (sym (a .is-accepted .ensures) ∙ c .before .if1 .taken), listing-room t (sym (a .is-accepted .ensures) ∙ c .before .if1 .taken))
 
 returns : tie.Need-returns
-returns c = no-room (table (c .before .before .before .before .before .before .before)) _ (c .before .before .before .before .before .is-accepted .ensures) (c .before .before .before .before .if1 .taken) (c .before .before .print .ensures) (c .if2 .taken)
+returns c =
+    let a = c .before .before in
+    let b = a .before .before in
+    let d = b .before in
+    let e = d .before .before in
+    no-room (table e) _ (d .is-accepted .ensures) (b .if1 .taken) (a .print .ensures) (c .if2 .taken)
 
 print-requires-2 : tie.Need-print-requires-2
-print-requires-2 c κs = let t = table (c .before .before .before .before .before .before .before .before) in
-    (omits-few t (sym (c .before .before .before .before .before .before .is-accepted .ensures) ∙ c .before .before .before .before .before .if1 .taken), listing-room t (sym (c .before .before .before .before .before .before .is-accepted .ensures) ∙ c .before .before .before .before .before .if1 .taken))
+print-requires-2 c κs =
+    let a = c .before .before .before .before .before in
+    let b = a .before in
+    let d = b .before .before in
+    let t = table d in
+    (omits-few t (sym (b .is-accepted .ensures) ∙ a .if1 .taken), listing-room t (sym (b .is-accepted .ensures) ∙ a .if1 .taken))
 
 same-length : tie.Need-same-length
 same-length c = search needs
 
 returns-2 : tie.Need-returns-2
-returns-2 c = wrote (table (c .before .before .before .before .before .before .before .before .before .before .before)) _ (c .before .before .before .before .before .before .before .before .before .is-accepted .ensures) (c .before .before .before .before .before .before .before .before .if1 .taken) (c .before .before .before .before .before .before .print .ensures) (c .before .before .before .before .if2 .left) (c .before .before .print2 .ensures)
+returns-2 c =
+    let a = c .before .before in
+    let b = a .before .before in
+    let d = b .before .before in
+    let e = d .before .before in
+    let f = e .before in
+    let g = f .before .before in
+    wrote (table g) _ (f .is-accepted .ensures) (e .if1 .taken) (d .print .ensures) (b .if2 .left) (a .print2 .ensures)
 
 returns-3 : tie.Need-returns-3
 returns-3 c = bad-table (table (c .before .before .before)) _ (c .before .is-accepted .ensures) (c .if1 .left)

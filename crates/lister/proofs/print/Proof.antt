@@ -14,18 +14,25 @@ abbrev table : tie.Start → Table
 table s = record { cells = now (s .args .cells); pool = now (s .args .pool); heads = s .args .heads }
 
 settings-requires : tie.Need-settings-requires
-settings-requires c κs = let s = c .before .before in
+settings-requires c κs =
+    let s = c .before .before in
     (s .pre .0, first-room (printedSettings (s .args .heads)) (printedBody (now (s .args .pool)) (now (s .args .cells)) (endsOf (s .args .heads))) (room-is (listing-parts (table s)) (s .pre .1)))
 
 body-requires : tie.Need-body-requires
-body-requires c κs = let s = c .before .before .before .before .before .before in
-    then-room (printedSettings (s .args .heads)) (printedBody (now (s .args .pool)) (now (s .args .cells)) (endsOf (s .args .heads))) (room-is (listing-parts (table s)) (s .pre .1)) (c .before .before .before .settings .ensures .place)
+body-requires c κs =
+    let a = c .before .before .before in
+    let s = a .before .before .before in
+    then-room (printedSettings (s .args .heads)) (printedBody (now (s .args .pool)) (now (s .args .cells)) (endsOf (s .args .heads))) (room-is (listing-parts (table s)) (s .pre .1)) (a .settings .ensures .place)
 
 same-length : tie.Need-same-length
 same-length c = search needs
 
 returns : tie.Need-returns
-returns c = printed-is (listing-parts (table (c .before .before .before .before .before .before .before .before .before))) (printed-more (c .before .before .before .before .before .before .settings .ensures) (c .before .before .body .ensures))
+returns c =
+    let a = c .before .before in
+    let b = a .before .before .before .before in
+    let d = b .before .before .before in
+    printed-is (listing-parts (table d)) (printed-more (b .settings .ensures) (a .body .ensures))
 
 pub print-spec : {M : Type 1} → statement M
 print-spec = tie.close (tie.spec settings-requires body-requires same-length returns)

@@ -20,7 +20,8 @@ cast-processes : tie.Need-cast-processes
 cast-processes c = search needs
 
 returns : tie.Need-returns
-returns c = let s = c .before .before .before .before .before in
+returns c =
+    let s = c .before .before .before .before .before in
     printed-is (sym (no-processes (now (s .args .pool)) (now (s .args .cells)) (s .args .heads .ends) (c .if1 .taken))) printed-none
 
 array-read-wide : tie.Need-array-read-wide
@@ -33,26 +34,51 @@ first-empty-requires : tie.Need-first-empty-requires
 first-empty-requires c κs = search needs
 
 first-line-requires : tie.Need-first-line-requires
-first-line-requires c κs = let s = c .before .before .before .before .before .before .before .before in
-    line-room (now (s .args .pool)) (now (s .args .cells)) (s .args .heads) (some-cells (c .before .before .before .before .before .before)) (all-ends (c .before .before .before .before .before .before)) (c .before .before .before .if1 .left) (c .before .before .wide .ensures) (c .first-empty .ensures) (s .pre)
+first-line-requires c κs =
+    let a = c .before .before in
+    let b = a .before in
+    let d = b .before .before .before in
+    let s = d .before .before in
+    line-room (now (s .args .pool)) (now (s .args .cells)) (s .args .heads) (some-cells d) (all-ends d) (b .if1 .left) (a .wide .ensures) (c .first-empty .ensures) (s .pre)
 
 cell-lines-requires : tie.Need-cell-lines-requires
-cell-lines-requires c κs = let s = c .before .before .before .before .before .before .before .before .before .before .before .before in
-    cells-room (now (s .args .pool)) (now (s .args .cells)) (s .args .heads) (some-cells (c .before .before .before .before .before .before .before .before .before .before)) (all-ends (c .before .before .before .before .before .before .before .before .before .before)) (c .before .before .before .before .before .before .before .if1 .left) (c .before .before .before .before .before .before .wide .ensures) (c .before .before .before .before .first-empty .ensures) (s .pre) (c .before .before .before .first-line .ensures)
+cell-lines-requires c κs =
+    let a = c .before .before .before in
+    let b = a .before in
+    let d = b .before .before in
+    let e = d .before in
+    let f = e .before .before .before in
+    let s = f .before .before in
+    cells-room (now (s .args .pool)) (now (s .args .cells)) (s .args .heads) (some-cells f) (all-ends f) (e .if1 .left) (d .wide .ensures) (b .first-empty .ensures) (s .pre) (a .first-line .ensures)
 
 slice-aggregate-others : tie.Need-slice-aggregate-others
 slice-aggregate-others c = search needs
 
 others-requires : tie.Need-others-requires
-others-requires c κs = let s = c .before .before .before .before .before .before .before .before .before .before .before .before .before .before .before .before .before in
-    others-room (now (s .args .pool)) (now (s .args .cells)) (s .args .heads) (some-cells (c .before .before .before .before .before .before .before .before .before .before .before .before .before .before .before)) (all-ends (c .before .before .before .before .before .before .before .before .before .before .before .before .before .before .before)) (c .before .before .before .before .before .before .before .before .before .before .before .before .if1 .left) (c .before .before .before .before .before .before .before .before .before .before .before .wide .ensures) (c .before .before .before .before .before .before .before .before .before .first-empty .ensures) (s .pre) (c .before .before .before .before .before .before .before .before .first-line .ensures) (c .before .before .before .before .cell-lines .ensures)
+others-requires c κs =
+    let a = c .before .before .before .before in
+    let b = a .before .before .before .before in
+    let d = b .before in
+    let e = d .before .before in
+    let f = e .before in
+    let g = f .before .before .before in
+    let s = g .before .before in
+    others-room (now (s .args .pool)) (now (s .args .cells)) (s .args .heads) (some-cells g) (all-ends g) (f .if1 .left) (e .wide .ensures) (d .first-empty .ensures) (s .pre) (b .first-line .ensures) (a .cell-lines .ensures)
 
 same-length : tie.Need-same-length
 same-length c = search needs
 
 returns-2 : tie.Need-returns-2
-returns-2 c = let s = c .before .before .before .before .before .before .before .before .before .before .before .before .before .before .before .before .before .before .before .before in
-    body-printed (now (s .args .pool)) (now (s .args .cells)) (s .args .heads) (some-cells (c .before .before .before .before .before .before .before .before .before .before .before .before .before .before .before .before .before .before)) (all-ends (c .before .before .before .before .before .before .before .before .before .before .before .before .before .before .before .before .before .before)) (c .before .before .before .before .before .before .before .before .before .before .before .before .before .before .before .if1 .left) (c .before .before .before .before .before .before .before .before .before .before .before .before .before .before .wide .ensures) (c .before .before .before .before .before .before .before .before .before .before .before .before .first-empty .ensures) (s .pre) (c .before .before .before .before .before .before .before .before .before .before .before .first-line .ensures) (c .before .before .before .before .before .before .before .cell-lines .ensures) (c .before .before .others .ensures)
+returns-2 c =
+    let a = c .before .before in
+    let b = a .before .before .before .before .before in
+    let d = b .before .before .before .before in
+    let e = d .before in
+    let f = e .before .before in
+    let g = f .before in
+    let h = g .before .before .before in
+    let s = h .before .before in
+    body-printed (now (s .args .pool)) (now (s .args .cells)) (s .args .heads) (some-cells h) (all-ends h) (g .if1 .left) (f .wide .ensures) (e .first-empty .ensures) (s .pre) (d .first-line .ensures) (b .cell-lines .ensures) (a .others .ensures)
 
 pub body-spec : {M : Type 1} → statement M
 body-spec =

@@ -32,7 +32,12 @@ shared-slice-read-line : tie.Need-shared-slice-read-line Inv-loop μ-loop
 shared-slice-read-line c = search needs
 
 line-requires : tie.Need-line-requires Inv-loop μ-loop
-line-requires c κs = next-room _ _ (left-is (cells-on _ _ _ _ (c .before .before .before .loop-test .taken) (c .before .before .if1 .left)) (c .before .before .before .before .loop .inv)) (c .before .before .before .before .before .before .before .pre)
+line-requires c κs =
+    let a = c .before .before in
+    let b = a .before in
+    let d = b .before in
+    let e = d .before .before .before in
+    next-room _ _ (left-is (cells-on _ _ _ _ (b .loop-test .taken) (a .if1 .left)) (d .loop .inv)) (e .pre)
 
 add-i : tie.Need-add-i Inv-loop μ-loop
 add-i c = search needs
@@ -41,13 +46,20 @@ loop-less : tie.Need-loop-less Inv-loop μ-loop
 loop-less c = search needs
 
 loop-again : tie.Need-loop-again Inv-loop μ-loop
-loop-again c = went-on _ _ (left-is (cells-on _ _ _ _ (c .before .before .before .before .before .before .loop-test .taken) (c .before .before .before .before .before .if1 .left)) (c .before .before .before .before .before .before .before .loop .inv)) (c .before .before .line .ensures)
+loop-again c =
+    let a = c .before .before in
+    let b = a .before .before .before in
+    let d = b .before in
+    let e = d .before in
+    went-on _ _ (left-is (cells-on _ _ _ _ (d .loop-test .taken) (b .if1 .left)) (e .loop .inv)) (a .line .ensures)
 
 same-length-2 : tie.Need-same-length-2 Inv-loop μ-loop
 same-length-2 c = c .before .loop .inv .long
 
 returns-2 : tie.Need-returns-2 Inv-loop μ-loop
-returns-2 c = let a = c .before .before .before .before .args in
+returns-2 c =
+    let b = c .before .before .before .before in
+    let a = b .args in
     printed (cells-past (now (a .pool)) (now (a .cells)) (a .end) (c .before .loop .i) (c .loop-test .left)) (c .before .loop .inv)
 
 pub cell-lines-spec : {M : Type 1} → statement M

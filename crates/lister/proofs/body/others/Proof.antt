@@ -21,8 +21,10 @@ same-length : tie.Need-same-length Inv-loop μ-loop
 same-length c = c .before .before .loop .inv .long
 
 returns : tie.Need-returns Inv-loop μ-loop
-returns c = let w = c .before .before in
-    let a = c .before .before .before .before .before .args in
+returns c =
+    let w = c .before .before in
+    let b = w .before .before .before in
+    let a = b .args in
     printed (others-enough (now (a .pool)) (now (a .cells)) (now (a .ends)) (a .processes) (w .loop .from) (w .loop .i) (c .if1 .taken)) (w .loop .inv)
 
 mul-wide : tie.Need-mul-wide Inv-loop μ-loop
@@ -35,14 +37,24 @@ wide-requires : tie.Need-wide-requires Inv-loop μ-loop
 wide-requires c κs = search needs
 
 process-line-requires : tie.Need-process-line-requires Inv-loop μ-loop
-process-line-requires c κs = let w = c .before .before .before .before .before in
-    let a = c .before .before .before .before .before .before .before .before .args in
-    next-room _ _ (left-is (others-on (now (a .pool)) (now (a .cells)) (now (a .ends)) (a .processes) (w .loop .from) (w .loop .i) (c .before .before .before .before .loop-test .taken) (c .before .before .before .if1 .left) (c .before .wide .ensures)) (w .loop .inv)) (c .before .before .before .before .before .before .before .before .pre)
+process-line-requires c κs =
+    let b = c .before .before .before in
+    let d = b .before in
+    let w = d .before in
+    let e = w .before .before .before in
+    let a = e .args in
+    next-room _ _ (left-is (others-on (now (a .pool)) (now (a .cells)) (now (a .ends)) (a .processes) (w .loop .from) (w .loop .i) (d .loop-test .taken) (b .if1 .left) (c .before .wide .ensures)) (w .loop .inv)) (e .pre)
 
 cell-lines-requires : tie.Need-cell-lines-requires Inv-loop μ-loop
-cell-lines-requires c κs = let w = c .before .before .before .before .before .before .before .before .before in
-    let a = c .before .before .before .before .before .before .before .before .before .before .before .before .args in
-    next-room _ _ (went-on _ _ (left-is (others-on (now (a .pool)) (now (a .cells)) (now (a .ends)) (a .processes) (w .loop .from) (w .loop .i) (c .before .before .before .before .before .before .before .before .loop-test .taken) (c .before .before .before .before .before .before .before .if1 .left) (c .before .before .before .before .before .wide .ensures)) (w .loop .inv)) (c .before .before .before .process-line .ensures)) (c .before .before .before .before .before .before .before .before .before .before .before .before .pre)
+cell-lines-requires c κs =
+    let b = c .before .before .before in
+    let d = b .before .before in
+    let e = d .before .before in
+    let f = e .before in
+    let w = f .before in
+    let g = w .before .before .before in
+    let a = g .args in
+    next-room _ _ (went-on _ _ (left-is (others-on (now (a .pool)) (now (a .cells)) (now (a .ends)) (a .processes) (w .loop .from) (w .loop .i) (f .loop-test .taken) (e .if1 .left) (d .wide .ensures)) (w .loop .inv)) (b .process-line .ensures)) (g .pre)
 
 add-i : tie.Need-add-i Inv-loop μ-loop
 add-i c = search needs
@@ -51,16 +63,25 @@ loop-less : tie.Need-loop-less Inv-loop μ-loop
 loop-less c = search needs
 
 loop-again : tie.Need-loop-again Inv-loop μ-loop
-loop-again c = let w = c .before .before .before .before .before .before .before .before .before .before .before .before in
-    let a = c .before .before .before .before .before .before .before .before .before .before .before .before .before .before .before .args in
-    went-on _ _ (went-on _ _ (left-is (others-on (now (a .pool)) (now (a .cells)) (now (a .ends)) (a .processes) (w .loop .from) (w .loop .i) (c .before .before .before .before .before .before .before .before .before .before .before .loop-test .taken) (c .before .before .before .before .before .before .before .before .before .before .if1 .left) (c .before .before .before .before .before .before .before .before .wide .ensures)) (w .loop .inv)) (c .before .before .before .before .before .before .process-line .ensures)) (c .before .before .cell-lines .ensures)
+loop-again c =
+    let b = c .before .before in
+    let d = b .before .before .before .before in
+    let e = d .before .before in
+    let f = e .before .before in
+    let g = f .before in
+    let w = g .before in
+    let h = w .before .before .before in
+    let a = h .args in
+    went-on _ _ (went-on _ _ (left-is (others-on (now (a .pool)) (now (a .cells)) (now (a .ends)) (a .processes) (w .loop .from) (w .loop .i) (g .loop-test .taken) (f .if1 .left) (e .wide .ensures)) (w .loop .inv)) (d .process-line .ensures)) (b .cell-lines .ensures)
 
 same-length-2 : tie.Need-same-length-2 Inv-loop μ-loop
 same-length-2 c = c .before .loop .inv .long
 
 returns-2 : tie.Need-returns-2 Inv-loop μ-loop
-returns-2 c = let w = c .before in
-    let a = c .before .before .before .before .args in
+returns-2 c =
+    let w = c .before in
+    let b = w .before .before .before in
+    let a = b .args in
     printed (others-past (now (a .pool)) (now (a .cells)) (now (a .ends)) (a .processes) (w .loop .from) (w .loop .i) (c .loop-test .left)) (w .loop .inv)
 
 pub others-spec : {M : Type 1} → statement M

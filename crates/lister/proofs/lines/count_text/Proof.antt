@@ -15,7 +15,10 @@ same-length : tie.Need-same-length
 same-length c = search needs
 
 returns : tie.Need-returns
-returns c = printed-is (for-ever _ (c .before .before .before .before .before .if1 .taken)) (c .before .before .put .ensures)
+returns c =
+    let a = c .before .before in
+    let b = a .before .before .before in
+    printed-is (for-ever _ (b .if1 .taken)) (a .put .ensures)
 
 number-of-requires : tie.Need-number-of-requires
 number-of-requires c κs = search needs
@@ -27,7 +30,11 @@ same-length-2 : tie.Need-same-length-2
 same-length-2 c = search needs
 
 returns-2 : tie.Need-returns-2
-returns-2 c = printed-is (so-often _ (c .before .before .before .number-of .ensures) (c .before .before .before .before .before .if1 .left)) (c .before .before .number .ensures)
+returns-2 c =
+    let a = c .before .before in
+    let b = a .before in
+    let d = b .before .before in
+    printed-is (so-often _ (b .number-of .ensures) (d .if1 .left)) (a .number .ensures)
 
 pub count-text-spec : {M : Type 1} → statement M
 count-text-spec =

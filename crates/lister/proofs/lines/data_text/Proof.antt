@@ -15,37 +15,61 @@ slice-aggregate-put : tie.Need-slice-aggregate-put
 slice-aggregate-put c = search needs
 
 put-requires : tie.Need-put-requires
-put-requires c κs = let s = c .before .before .before .before .before .before in
-    first-room (58 ∷ []) (hexText (now (s .args .text))) (room-is (hex-data _ _ (c .before .before .before .in-hex .ensures) (c .before .before .if1 .taken)) (s .pre .1))
+put-requires c κs =
+    let a = c .before .before in
+    let b = a .before in
+    let s = b .before .before .before in
+    first-room (58 ∷ []) (hexText (now (s .args .text))) (room-is (hex-data _ _ (b .in-hex .ensures) (a .if1 .taken)) (s .pre .1))
 
 hex-requires : tie.Need-hex-requires
-hex-requires c κs = let s = c .before .before .before .before .before .before .before .before .before .before in
-    let e = c .before .before .before .before .before .before .before .in-hex .ensures in
-    let t = c .before .before .before .before .before .before .if1 .taken in
-    (hex-few _ _ e (s .pre .0) t, then-room (58 ∷ []) (hexText (now (s .args .text))) (room-is (hex-data _ _ e t) (s .pre .1)) (c .before .before .before .put .ensures .place))
+hex-requires c κs =
+    let a = c .before .before .before in
+    let b = a .before .before .before in
+    let d = b .before in
+    let s = d .before .before .before in
+    let e = d .in-hex .ensures in
+    let t = b .if1 .taken in
+    (hex-few _ _ e (s .pre .0) t, then-room (58 ∷ []) (hexText (now (s .args .text))) (room-is (hex-data _ _ e t) (s .pre .1)) (a .put .ensures .place))
 
 same-length : tie.Need-same-length
 same-length c = search needs
 
 returns : tie.Need-returns
-returns c = printed-is (hex-data _ _ (c .before .before .before .before .before .before .before .before .before .before .in-hex .ensures) (c .before .before .before .before .before .before .before .before .before .if1 .taken)) (printed-more (c .before .before .before .before .before .before .put .ensures) (c .before .before .hex .ensures))
+returns c =
+    let a = c .before .before in
+    let b = a .before .before .before .before in
+    let d = b .before .before .before in
+    let e = d .before in
+    printed-is (hex-data _ _ (e .in-hex .ensures) (d .if1 .taken)) (printed-more (b .put .ensures) (a .hex .ensures))
 
 slice-aggregate-put-2 : tie.Need-slice-aggregate-put-2
 slice-aggregate-put-2 c = search needs
 
 put-requires-2 : tie.Need-put-requires-2
-put-requires-2 c κs = let s = c .before .before .before .before .before .before in
-    first-room (47 ∷ []) (now (s .args .text)) (room-is (text-data _ _ (c .before .before .before .in-hex .ensures) (c .before .before .if1 .left)) (s .pre .1))
+put-requires-2 c κs =
+    let a = c .before .before in
+    let b = a .before in
+    let s = b .before .before .before in
+    first-room (47 ∷ []) (now (s .args .text)) (room-is (text-data _ _ (b .in-hex .ensures) (a .if1 .left)) (s .pre .1))
 
 put-requires-3 : tie.Need-put-requires-3
-put-requires-3 c κs = let s = c .before .before .before .before .before .before .before .before .before .before in
-    then-room (47 ∷ []) (now (s .args .text)) (room-is (text-data _ _ (c .before .before .before .before .before .before .before .in-hex .ensures) (c .before .before .before .before .before .before .if1 .left)) (s .pre .1)) (c .before .before .before .put2 .ensures .place)
+put-requires-3 c κs =
+    let a = c .before .before .before in
+    let b = a .before .before .before in
+    let d = b .before in
+    let s = d .before .before .before in
+    then-room (47 ∷ []) (now (s .args .text)) (room-is (text-data _ _ (d .in-hex .ensures) (b .if1 .left)) (s .pre .1)) (a .put2 .ensures .place)
 
 same-length-2 : tie.Need-same-length-2
 same-length-2 c = search needs
 
 returns-2 : tie.Need-returns-2
-returns-2 c = printed-is (text-data _ _ (c .before .before .before .before .before .before .before .before .before .before .in-hex .ensures) (c .before .before .before .before .before .before .before .before .before .if1 .left)) (printed-more (c .before .before .before .before .before .before .put2 .ensures) (c .before .before .put3 .ensures))
+returns-2 c =
+    let a = c .before .before in
+    let b = a .before .before .before .before in
+    let d = b .before .before .before in
+    let e = d .before in
+    printed-is (text-data _ _ (e .in-hex .ensures) (d .if1 .left)) (printed-more (b .put2 .ensures) (a .put3 .ensures))
 
 pub data-text-spec : {M : Type 1} → statement M
 data-text-spec =

@@ -27,15 +27,22 @@ part-log-text-end : tie.Need-part-log-text-end
 part-log-text-end c = search needs
 
 log-text-requires : tie.Need-log-text-requires
-log-text-requires c κs = let s = c .before .before .before .before .before .before in
-    room-is (ap logText (held (now (s .args .pool)) (s .args .s) (c .before .before .before .wide .ensures) (c .before .before .wide2 .ensures))) (s .pre .1)
+log-text-requires c κs =
+    let a = c .before .before in
+    let b = a .before in
+    let s = b .before .before .before in
+    room-is (ap logText (held (now (s .args .pool)) (s .args .s) (b .wide .ensures) (a .wide2 .ensures))) (s .pre .1)
 
 same-length : tie.Need-same-length
 same-length c = search needs
 
 returns : tie.Need-returns
-returns c = let s = c .before .before .before .before .before .before .before .before .before in
-    printed-is (ap logText (held (now (s .args .pool)) (s .args .s) (c .before .before .before .before .before .before .wide .ensures) (c .before .before .before .before .before .wide2 .ensures))) (c .before .before .log-text .ensures)
+returns c =
+    let a = c .before .before in
+    let b = a .before .before .before in
+    let d = b .before in
+    let s = d .before .before .before in
+    printed-is (ap logText (held (now (s .args .pool)) (s .args .s) (d .wide .ensures) (b .wide2 .ensures))) (a .log-text .ensures)
 
 pub log-spec : {M : Type 1} → statement M
 log-spec =

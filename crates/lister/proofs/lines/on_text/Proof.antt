@@ -15,7 +15,10 @@ same-length : tie.Need-same-length
 same-length c = search needs
 
 returns : tie.Need-returns
-returns c = printed-is (level-on (c .before .before .before .before .before .if1 .taken)) (c .before .before .put .ensures)
+returns c =
+    let a = c .before .before in
+    let b = a .before .before .before in
+    printed-is (level-on (b .if1 .taken)) (a .put .ensures)
 
 slice-aggregate-put-2 : tie.Need-slice-aggregate-put-2
 slice-aggregate-put-2 c = search needs
@@ -27,7 +30,10 @@ same-length-2 : tie.Need-same-length-2
 same-length-2 c = search needs
 
 returns-2 : tie.Need-returns-2
-returns-2 c = printed-is (level-off (c .before .before .before .before .before .if1 .left)) (c .before .before .put2 .ensures)
+returns-2 c =
+    let a = c .before .before in
+    let b = a .before .before .before in
+    printed-is (level-off (b .if1 .left)) (a .put2 .ensures)
 
 pub on-text-spec : {M : Type 1} → statement M
 on-text-spec =

@@ -27,15 +27,22 @@ part-data-text-end : tie.Need-part-data-text-end
 part-data-text-end c = search needs
 
 data-text-requires : tie.Need-data-text-requires
-data-text-requires c κs = let s = c .before .before .before .before .before .before in
-    (s .pre .1, room-is (ap (dataText (s .args .room)) (held (now (s .args .pool)) (s .args .s) (c .before .before .before .wide .ensures) (c .before .before .wide2 .ensures))) (s .pre .2))
+data-text-requires c κs =
+    let a = c .before .before in
+    let b = a .before in
+    let s = b .before .before .before in
+    (s .pre .1, room-is (ap (dataText (s .args .room)) (held (now (s .args .pool)) (s .args .s) (b .wide .ensures) (a .wide2 .ensures))) (s .pre .2))
 
 same-length : tie.Need-same-length
 same-length c = search needs
 
 returns : tie.Need-returns
-returns c = let s = c .before .before .before .before .before .before .before .before .before in
-    printed-is (ap (dataText (s .args .room)) (held (now (s .args .pool)) (s .args .s) (c .before .before .before .before .before .before .wide .ensures) (c .before .before .before .before .before .wide2 .ensures))) (c .before .before .data-text .ensures)
+returns c =
+    let a = c .before .before in
+    let b = a .before .before .before in
+    let d = b .before in
+    let s = d .before .before .before in
+    printed-is (ap (dataText (s .args .room)) (held (now (s .args .pool)) (s .args .s) (d .wide .ensures) (b .wide2 .ensures))) (a .data-text .ensures)
 
 pub pool-text-spec : {M : Type 1} → statement M
 pool-text-spec =

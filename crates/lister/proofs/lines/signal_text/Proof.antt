@@ -15,7 +15,10 @@ same-length : tie.Need-same-length
 same-length c = search needs
 
 returns : tie.Need-returns
-returns c = printed-is (is-cts _ (c .before .before .before .before .before .if1 .taken)) (c .before .before .put .ensures)
+returns c =
+    let a = c .before .before in
+    let b = a .before .before .before in
+    printed-is (is-cts _ (b .if1 .taken)) (a .put .ensures)
 
 add-t11 : tie.Need-add-t11
 add-t11 c = search needs
@@ -30,7 +33,10 @@ same-length-2 : tie.Need-same-length-2
 same-length-2 c = search needs
 
 returns-2 : tie.Need-returns-2
-returns-2 c = printed-is (is-ex _ (c .before .before .before .before .before .if1 .left)) (c .before .before .put2 .ensures)
+returns-2 c =
+    let a = c .before .before in
+    let b = a .before .before .before in
+    printed-is (is-ex _ (b .if1 .left)) (a .put2 .ensures)
 
 pub signal-text-spec : {M : Type 1} → statement M
 signal-text-spec =

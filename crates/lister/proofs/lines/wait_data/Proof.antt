@@ -17,7 +17,10 @@ same-length : tie.Need-same-length
 same-length c = search needs
 
 returns : tie.Need-returns
-returns c = printed-more (c .before .before .before .before .before .before .put .ensures) (c .before .before .pool-text .ensures)
+returns c =
+    let a = c .before .before in
+    let b = a .before .before .before .before in
+    printed-more (b .put .ensures) (a .pool-text .ensures)
 
 pub wait-data-spec : {M : Type 1} → statement M
 wait-data-spec =

@@ -13,31 +13,46 @@ slice-aggregate-put : tie.Need-slice-aggregate-put
 slice-aggregate-put c = search needs
 
 put-requires : tie.Need-put-requires
-put-requires c κs = let s = c .before .before .before .before in
-    let room = room-is (encode-set (s .args .encode) (c .before .before .if1 .taken)) (s .pre) in
+put-requires c κs =
+    let a = c .before .before in
+    let s = a .before .before in
+    let room = room-is (encode-set (s .args .encode) (a .if1 .taken)) (s .pre) in
     room-one (ascii "#f:ENCODE :") (hexText (s .args .encode ∷ [])) (13 ∷ 10 ∷ []) room
 
 slice-aggregate-hex : tie.Need-slice-aggregate-hex
 slice-aggregate-hex c = search needs
 
 hex-requires : tie.Need-hex-requires
-hex-requires c κs = let s = c .before .before .before .before .before .before .before .before .before in
-    let room = room-is (encode-set (s .args .encode) (c .before .before .before .before .before .before .before .if1 .taken)) (s .pre) in
-    (omega arith, room-two (ascii "#f:ENCODE :") (hexText (s .args .encode ∷ [])) (13 ∷ 10 ∷ []) room (c .before .before .before .before .put .ensures .place))
+hex-requires c κs =
+    let a = c .before .before .before .before in
+    let b = a .before .before .before in
+    let s = b .before .before in
+    let room = room-is (encode-set (s .args .encode) (b .if1 .taken)) (s .pre) in
+    (omega arith, room-two (ascii "#f:ENCODE :") (hexText (s .args .encode ∷ [])) (13 ∷ 10 ∷ []) room (a .put .ensures .place))
 
 slice-aggregate-put-2 : tie.Need-slice-aggregate-put-2
 slice-aggregate-put-2 c = search needs
 
 put-requires-2 : tie.Need-put-requires-2
-put-requires-2 c κs = let s = c .before .before .before .before .before .before .before .before .before .before .before .before .before .before in
-    let room = room-is (encode-set (s .args .encode) (c .before .before .before .before .before .before .before .before .before .before .before .before .if1 .taken)) (s .pre) in
-    room-three (ascii "#f:ENCODE :") (hexText (s .args .encode ∷ [])) (13 ∷ 10 ∷ []) room (c .before .before .before .before .before .before .before .before .before .put .ensures .place) (c .before .before .before .before .hex .ensures .place)
+put-requires-2 c κs =
+    let a = c .before .before .before .before in
+    let b = a .before .before .before .before .before in
+    let d = b .before .before .before in
+    let s = d .before .before in
+    let room = room-is (encode-set (s .args .encode) (d .if1 .taken)) (s .pre) in
+    room-three (ascii "#f:ENCODE :") (hexText (s .args .encode ∷ [])) (13 ∷ 10 ∷ []) room (b .put .ensures .place) (a .hex .ensures .place)
 
 same-length : tie.Need-same-length
 same-length c = search needs
 
 returns : tie.Need-returns
-returns c = printed-is (encode-set (c .before .before .before .before .before .before .before .before .before .before .before .before .before .before .before .before .before .args .encode) (c .before .before .before .before .before .before .before .before .before .before .before .before .before .before .before .if1 .taken)) (printed-more (printed-more (c .before .before .before .before .before .before .before .before .before .before .before .before .put .ensures) (c .before .before .before .before .before .before .before .hex .ensures)) (c .before .before .put2 .ensures))
+returns c =
+    let a = c .before .before in
+    let b = a .before .before .before .before .before in
+    let d = b .before .before .before .before .before in
+    let e = d .before .before .before in
+    let f = e .before .before in
+    printed-is (encode-set (f .args .encode) (e .if1 .taken)) (printed-more (printed-more (d .put .ensures) (b .hex .ensures)) (a .put2 .ensures))
 
 returns-2 : tie.Need-returns-2
 returns-2 c = printed-is (encode-unset (c .before .before .args .encode) (c .if1 .left)) printed-none

@@ -11,36 +11,51 @@ use Rattle.lister.proofs.settings.omit_line.Statement.{statement}
 use Rattle.lister.proofs.settings.omit_line.Tie as tie
 
 returns : tie.Need-returns
-returns c = let s = c .before .before .before in
+returns c =
+    let s = c .before .before .before in
     printed-is (stands-not (ascii "#f:OMIT :" ++ hexText (now (s .args .omit))) (omits-none _ (c .if1 .taken))) printed-none
 
 slice-aggregate-put : tie.Need-slice-aggregate-put
 slice-aggregate-put c = search needs
 
 put-requires : tie.Need-put-requires
-put-requires c κs = let s = c .before .before .before .before .before in
-    let room = room-is (stands (ascii "#f:OMIT :" ++ hexText (now (s .args .omit))) (omits-some _ (c .before .before .if1 .left))) (s .pre .1) in
+put-requires c κs =
+    let a = c .before .before in
+    let s = a .before .before .before in
+    let room = room-is (stands (ascii "#f:OMIT :" ++ hexText (now (s .args .omit))) (omits-some _ (a .if1 .left))) (s .pre .1) in
     room-one (ascii "#f:OMIT :") (hexText (now (s .args .omit))) (13 ∷ 10 ∷ []) room
 
 hex-requires : tie.Need-hex-requires
-hex-requires c κs = let s = c .before .before .before .before .before .before .before .before .before in
-    let room = room-is (stands (ascii "#f:OMIT :" ++ hexText (now (s .args .omit))) (omits-some _ (c .before .before .before .before .before .before .if1 .left))) (s .pre .1) in
-    (omega (arith, s .pre .0), room-two (ascii "#f:OMIT :") (hexText (now (s .args .omit))) (13 ∷ 10 ∷ []) room (c .before .before .before .put .ensures .place))
+hex-requires c κs =
+    let a = c .before .before .before in
+    let b = a .before .before .before in
+    let s = b .before .before .before in
+    let room = room-is (stands (ascii "#f:OMIT :" ++ hexText (now (s .args .omit))) (omits-some _ (b .if1 .left))) (s .pre .1) in
+    (omega (arith, s .pre .0), room-two (ascii "#f:OMIT :") (hexText (now (s .args .omit))) (13 ∷ 10 ∷ []) room (a .put .ensures .place))
 
 slice-aggregate-put-2 : tie.Need-slice-aggregate-put-2
 slice-aggregate-put-2 c = search needs
 
 put-requires-2 : tie.Need-put-requires-2
-put-requires-2 c κs = let s = c .before .before .before .before .before .before .before .before .before .before .before .before .before .before in
-    let room = room-is (stands (ascii "#f:OMIT :" ++ hexText (now (s .args .omit))) (omits-some _ (c .before .before .before .before .before .before .before .before .before .before .before .if1 .left))) (s .pre .1) in
-    room-three (ascii "#f:OMIT :") (hexText (now (s .args .omit))) (13 ∷ 10 ∷ []) room (c .before .before .before .before .before .before .before .before .put .ensures .place) (c .before .before .before .before .hex .ensures .place)
+put-requires-2 c κs =
+    let a = c .before .before .before .before in
+    let b = a .before .before .before .before in
+    let d = b .before .before .before in
+    let s = d .before .before .before in
+    let room = room-is (stands (ascii "#f:OMIT :" ++ hexText (now (s .args .omit))) (omits-some _ (d .if1 .left))) (s .pre .1) in
+    room-three (ascii "#f:OMIT :") (hexText (now (s .args .omit))) (13 ∷ 10 ∷ []) room (b .put .ensures .place) (a .hex .ensures .place)
 
 same-length : tie.Need-same-length
 same-length c = search needs
 
 returns-2 : tie.Need-returns-2
-returns-2 c = let s = c .before .before .before .before .before .before .before .before .before .before .before .before .before .before .before .before .before in
-    printed-is (stands (ascii "#f:OMIT :" ++ hexText (now (s .args .omit))) (omits-some _ (c .before .before .before .before .before .before .before .before .before .before .before .before .before .before .if1 .left))) (printed-more (printed-more (c .before .before .before .before .before .before .before .before .before .before .before .put .ensures) (c .before .before .before .before .before .before .before .hex .ensures)) (c .before .before .put2 .ensures))
+returns-2 c =
+    let a = c .before .before in
+    let b = a .before .before .before .before .before in
+    let d = b .before .before .before .before in
+    let e = d .before .before .before in
+    let s = e .before .before .before in
+    printed-is (stands (ascii "#f:OMIT :" ++ hexText (now (s .args .omit))) (omits-some _ (e .if1 .left))) (printed-more (printed-more (d .put .ensures) (b .hex .ensures)) (a .put2 .ensures))
 
 pub omit-line-spec : {M : Type 1} → statement M
 omit-line-spec =

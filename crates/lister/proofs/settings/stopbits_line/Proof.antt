@@ -16,7 +16,10 @@ same-length : tie.Need-same-length
 same-length c = search needs
 
 returns : tie.Need-returns
-returns c = printed-is (stands (ascii "#f:STOPBITS 2") (c .before .before .before .before .before .if1 .taken)) (c .before .before .put .ensures)
+returns c =
+    let a = c .before .before in
+    let b = a .before .before .before in
+    printed-is (stands (ascii "#f:STOPBITS 2") (b .if1 .taken)) (a .put .ensures)
 
 returns-2 : tie.Need-returns-2
 returns-2 c = printed-is (stands-not (ascii "#f:STOPBITS 2") (c .if1 .left)) printed-none

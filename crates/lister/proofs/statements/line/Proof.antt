@@ -8,21 +8,27 @@ use Rattle.lister.proofs.statements.line.Statement.{statement}
 use Rattle.lister.proofs.statements.line.Tie as tie
 
 statement-requires : tie.Need-statement-requires
-statement-requires c κs = let s = c .before .before in
+statement-requires c κs =
+    let s = c .before .before in
     first-room (wordLine (now (s .args .pool)) (s .args .w)) (13 ∷ 10 ∷ []) (s .pre)
 
 slice-aggregate-put : tie.Need-slice-aggregate-put
 slice-aggregate-put c = search needs
 
 put-requires : tie.Need-put-requires
-put-requires c κs = let s = c .before .before .before .before .before .before .before in
-    then-room (wordLine (now (s .args .pool)) (s .args .w)) (13 ∷ 10 ∷ []) (s .pre) (c .before .before .before .before .statement .ensures .place)
+put-requires c κs =
+    let a = c .before .before .before .before in
+    let s = a .before .before .before in
+    then-room (wordLine (now (s .args .pool)) (s .args .w)) (13 ∷ 10 ∷ []) (s .pre) (a .statement .ensures .place)
 
 same-length : tie.Need-same-length
 same-length c = search needs
 
 returns : tie.Need-returns
-returns c = printed-more (c .before .before .before .before .before .before .before .statement .ensures) (c .before .before .put .ensures)
+returns c =
+    let a = c .before .before in
+    let b = a .before .before .before .before .before in
+    printed-more (b .statement .ensures) (a .put .ensures)
 
 pub line-spec : {M : Type 1} → statement M
 line-spec =

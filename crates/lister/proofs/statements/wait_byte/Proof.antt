@@ -1,5 +1,5 @@
 -- `lister::statements::wait_byte` meets its contract. Assumes nothing.
-use mathlib.Core.Path.{sym, ap}
+use mathlib.Core.Path.{ap}
 use Rattle.reader.specs.Ascii.{ascii}
 use Rattle.reader.specs.Put.{decimal}
 use Rattle.lister.proofs.Printing.{printed-is, printed-more, room-is, then-room}
@@ -17,14 +17,20 @@ number-of-requires : tie.Need-number-of-requires
 number-of-requires c κs = search needs
 
 number-requires : tie.Need-number-requires
-number-requires c κs = let s = c .before .before .before .before .before .before .before .before in
-    room-is (ap decimal (c .number-of .ensures)) (then-room (ascii "#WAIT BYTE ") (decimal (s .args .n)) (s .pre) (c .before .before .before .before .put .ensures .place))
+number-requires c κs =
+    let a = c .before .before .before .before in
+    let s = a .before .before .before .before in
+    room-is (ap decimal (c .number-of .ensures)) (then-room (ascii "#WAIT BYTE ") (decimal (s .args .n)) (s .pre) (a .put .ensures .place))
 
 same-length : tie.Need-same-length
 same-length c = search needs
 
 returns : tie.Need-returns
-returns c = printed-more (c .before .before .before .before .before .before .before .put .ensures) (printed-is (ap decimal (c .before .before .before .number-of .ensures)) (c .before .before .number .ensures))
+returns c =
+    let a = c .before .before in
+    let b = a .before in
+    let d = b .before .before .before .before in
+    printed-more (d .put .ensures) (printed-is (ap decimal (b .number-of .ensures)) (a .number .ensures))
 
 pub wait-byte-spec : {M : Type 1} → statement M
 wait-byte-spec =

@@ -14,20 +14,29 @@ put-requires : tie.Need-put-requires
 put-requires c κs = search needs
 
 signal-text-requires : tie.Need-signal-text-requires
-signal-text-requires c κs = let s = c .before .before .before .before .before .before .before in
+signal-text-requires c κs =
+    let a = c .before .before .before in
+    let s = a .before .before .before .before in
     let l = s .args .l in
-    (s .pre .0, first-room (signalText (l .signal)) (onText (l .on)) (then-room (ascii "#WAIT ") (signalText (l .signal) ++ onText (l .on)) (s .pre .1) (c .before .before .before .put .ensures .place)))
+    (s .pre .0, first-room (signalText (l .signal)) (onText (l .on)) (then-room (ascii "#WAIT ") (signalText (l .signal) ++ onText (l .on)) (s .pre .1) (a .put .ensures .place)))
 
 on-text-requires : tie.Need-on-text-requires
-on-text-requires c κs = let s = c .before .before .before .before .before .before .before .before .before .before .before in
+on-text-requires c κs =
+    let a = c .before .before .before in
+    let b = a .before .before .before .before in
+    let s = b .before .before .before .before in
     let l = s .args .l in
-    then-room (signalText (l .signal)) (onText (l .on)) (then-room (ascii "#WAIT ") (signalText (l .signal) ++ onText (l .on)) (s .pre .1) (c .before .before .before .before .before .before .before .put .ensures .place)) (c .before .before .before .signal-text .ensures .place)
+    then-room (signalText (l .signal)) (onText (l .on)) (then-room (ascii "#WAIT ") (signalText (l .signal) ++ onText (l .on)) (s .pre .1) (b .put .ensures .place)) (a .signal-text .ensures .place)
 
 same-length : tie.Need-same-length
 same-length c = search needs
 
 returns : tie.Need-returns
-returns c = printed-more (c .before .before .before .before .before .before .before .before .before .before .put .ensures) (printed-more (c .before .before .before .before .before .before .signal-text .ensures) (c .before .before .on-text .ensures))
+returns c =
+    let a = c .before .before in
+    let b = a .before .before .before .before in
+    let d = b .before .before .before .before in
+    printed-more (d .put .ensures) (printed-more (b .signal-text .ensures) (a .on-text .ensures))
 
 pub wait-signal-spec : {M : Type 1} → statement M
 wait-signal-spec =

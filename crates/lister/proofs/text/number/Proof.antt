@@ -1,7 +1,5 @@
 -- `lister::text::number` meets its contract. Assumes nothing.
-use denote.Ref.{now}
 use native.Mathlib.Omega.{arith}
-use Rattle.reader.specs.Put.{decimal}
 use Rattle.reader.proofs.Decimals.{decimal-few}
 use Rattle.lister.proofs.Printing.{printed-is, room-is}
 use Rattle.lister.proofs.Scratch.{never, enough, first-bytes}
@@ -22,9 +20,11 @@ slice-aggregate-put-first : tie.Need-slice-aggregate-put-first
 slice-aggregate-put-first c = search needs
 
 put-first-requires : tie.Need-put-first-requires
-put-first-requires c κs = let s = c .before .before .before .before .before .before .before .before .before in
-    let d = c .before .before .before .before .before .before in
-    (enough _ _ (d .put-decimal .ensures .0) (decimal-few 10 (s .args .n) (omega arith) (omega (arith, s .fits .n))) (c .before .before .before .done .given .1) (d .put-decimal .ensures .1), room-is (first-bytes _ _ (d .put-decimal .ensures .0) (decimal-few 10 (s .args .n) (omega arith) (omega (arith, s .fits .n))) (c .before .before .before .done .given .1) (d .put-decimal .ensures .1)) (s .pre))
+put-first-requires c κs =
+    let a = c .before .before .before in
+    let d = a .before .before .before in
+    let s = d .before .before .before in
+    (enough _ _ (d .put-decimal .ensures .0) (decimal-few 10 (s .args .n) (omega arith) (omega (arith, s .fits .n))) (a .done .given .1) (d .put-decimal .ensures .1), room-is (first-bytes _ _ (d .put-decimal .ensures .0) (decimal-few 10 (s .args .n) (omega arith) (omega (arith, s .fits .n))) (a .done .given .1) (d .put-decimal .ensures .1)) (s .pre))
 
 enum-told : tie.Need-enum-told
 enum-told c = search needs
@@ -33,13 +33,17 @@ same-length : tie.Need-same-length
 same-length c = search needs
 
 returns : tie.Need-returns
-returns c = let s = c .before .before .before .before .before .before .before .before .before .before .before .before in
-    let d = c .before .before .before .before .before .before .before .before .before in
-    printed-is (first-bytes _ _ (d .put-decimal .ensures .0) (decimal-few 10 (s .args .n) (omega arith) (omega (arith, s .fits .n))) (c .before .before .before .before .before .before .done .given .1) (d .put-decimal .ensures .1)) (c .before .before .put-first .ensures)
+returns c =
+    let a = c .before .before in
+    let b = a .before .before .before .before in
+    let d = b .before .before .before in
+    let s = d .before .before .before in
+    printed-is (first-bytes _ _ (d .put-decimal .ensures .0) (decimal-few 10 (s .args .n) (omega arith) (omega (arith, s .fits .n))) (b .done .given .1) (d .put-decimal .ensures .1)) (a .put-first .ensures)
 
 returns-2 : tie.Need-returns-2
-returns-2 c = let s = c .before .before .before .before .before .before in
+returns-2 c =
     let d = c .before .before .before in
+    let s = d .before .before .before in
     absurd (never _ _ (d .put-decimal .ensures .0) (decimal-few 10 (s .args .n) (omega arith) (omega (arith, s .fits .n))) (c .enum-told .given .1))
 
 pub number-spec : {M : Type 1} → statement M

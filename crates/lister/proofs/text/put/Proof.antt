@@ -23,7 +23,11 @@ store-requires : tie.Need-store-requires Inv-loop μ-loop
 store-requires c κs = search needs
 
 add-place : tie.Need-add-place Inv-loop μ-loop
-add-place c = omega (arith, byte-room _ _ (c .before .before .before .before .before .loop-test .taken) (c .before .before .before .before .before .before .loop .inv) (c .before .before .before .before .before .before .before .before .before .pre) .fits)
+add-place c =
+    let a = c .before .before .before .before .before in
+    let b = a .before in
+    let d = b .before .before .before in
+    omega (arith, byte-room _ _ (a .loop-test .taken) (b .loop .inv) (d .pre) .fits)
 
 add-i : tie.Need-add-i Inv-loop μ-loop
 add-i c = search needs
@@ -32,7 +36,11 @@ loop-less : tie.Need-loop-less Inv-loop μ-loop
 loop-less c = search needs
 
 loop-again : tie.Need-loop-again Inv-loop μ-loop
-loop-again c = byte-stored _ _ (c .before .before .before .before .before .loop-test .taken) (c .before .before .before .before .before .before .loop .inv) (c .before .before .store .ensures)
+loop-again c =
+    let a = c .before .before in
+    let b = a .before .before .before in
+    let d = b .before in
+    byte-stored _ _ (b .loop-test .taken) (d .loop .inv) (a .store .ensures)
 
 same-length : tie.Need-same-length Inv-loop μ-loop
 same-length c = c .before .loop .inv .long

@@ -23,7 +23,11 @@ same-length c = search needs
 
 returns : tie.Need-returns
 unfolding twoDigits
-returns c = printed-is (cond-on (twoDigits (c .before .before .before .before .before .before .before .args .n)) (c .before .before .before .before .before .if1 .taken)) (c .before .before .put .ensures)
+returns c =
+    let a = c .before .before in
+    let b = a .before .before .before in
+    let d = b .before .before in
+    printed-is (cond-on (twoDigits (d .args .n)) (b .if1 .taken)) (a .put .ensures)
 
 returns-2 : tie.Need-returns-2
 returns-2 c = printed-is (cond-off (twoDigits (c .before .before .args .n)) (c .if1 .left)) printed-none
