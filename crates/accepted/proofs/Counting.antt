@@ -32,7 +32,7 @@ unfolding encodeLines
 encode-length unset = refl
 encode-length (byte b) = refl
 
-some-omit : (l : List ℕ) → not (same l []) ≡ ltb 0 (length l)
+pub some-omit : (l : List ℕ) → not (same l []) ≡ ltb 0 (length l)
 unfolding same
 some-omit [] = refl
 some-omit (b ∷ l) = let h : 0 < suc (length l) = omega arith in sym (lt-ltb 0 (suc (length l)) h)

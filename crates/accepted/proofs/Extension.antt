@@ -37,7 +37,7 @@ module _ {e : List ℕ} {i : ℕ} (l : Lettering e i) where
         record { whole = omega (arith, l .whole) }
 
 -- the letters are the first bytes
-letters-first : (e : List ℕ) → take (length (lettersOf e)) e ≡ lettersOf e
+pub letters-first : (e : List ℕ) → take (length (lettersOf e)) e ≡ lettersOf e
 unfolding lettersOf
 letters-first [] = refl
 letters-first (b ∷ l) = go (eqb b 0) (letters-first l)

@@ -99,7 +99,7 @@ module _ (h : Heads) where
 -- ---- one word
 
 module _ (w : ℕ) {x c : Cell} (told : x ≡ decoded w) (is : x ≡ c) where
-  known-cell : (c ≡ Unknown → ⊥) → cellRight c ≡ true
+  pub known-cell : (c ≡ Unknown → ⊥) → cellRight c ≡ true
   known-cell n = ⊎-elim (λ u. absurd (n (sym is ∙ (told ∙ u)))) (λ p. rw (sym told ∙ is) at (p .0)) (code-decode w)
 
   module _ (pool : List ℕ) (at : ℕ) where

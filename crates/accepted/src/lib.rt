@@ -8,7 +8,7 @@ use stretch::Measured;
 use stretch::largest;
 
 mod ends;
-mod settings;
+pub mod settings;
 mod statements;
 mod zeros;
 

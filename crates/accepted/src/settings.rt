@@ -27,7 +27,7 @@ fn both(a: bool, b: bool) -> bool
 }
 
 // How many letters stand before the first zero.
-fn letters(extension: &[u8]) -> usize
+pub fn letters(extension: &[u8]) -> usize
     ensures { λ r. ⌜ r ≡ length (lettersOf (now («extension» .entry))) ⌝ }
 {
     let mut i = 0usize;
@@ -104,7 +104,7 @@ fn count(is: bool) -> usize
 }
 
 // "and the first too if it is empty and others follow".
-fn first_empty(heads: Heads) -> bool
+pub fn first_empty(heads: Heads) -> bool
     ensures { λ r. ⌜ r ≡ firstEmpty heads ⌝ }
 {
     let ends = heads.ends;
@@ -112,7 +112,7 @@ fn first_empty(heads: Heads) -> bool
 }
 
 // Whether the letters are others than LOG.
-fn other_letters(extension: &[u8]) -> bool
+pub fn other_letters(extension: &[u8]) -> bool
     ensures { λ r. ⌜ r ≡ not (same (lettersOf (now («extension» .entry))) (ascii "LOG")) ⌝ }
 {
     let count = letters(extension);

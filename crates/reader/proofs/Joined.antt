@@ -27,7 +27,7 @@ module _ (bs d : List ℕ) (at : ℕ) (room : at + length bs ≤ length d) where
   pub put-there : drop at (putInto bs d at) ≡ bs ++ drop (at + length bs) d
   put-there = rw put-parts (drop-at (take at d) _ at (length-take-le at d (omega arith)))
 
-sets-append : (bs cs d : List ℕ) (at : ℕ) → sets (sets d at bs) (at + length bs) cs ≡ sets d at (bs ++ cs)
+pub sets-append : (bs cs d : List ℕ) (at : ℕ) → sets (sets d at bs) (at + length bs) cs ≡ sets d at (bs ++ cs)
 sets-append [] cs d at = let e : at + 0 ≡ at = omega arith in rw e
 sets-append (b ∷ bs) cs d at =
     let e : at + suc (length bs) ≡ suc at + length bs = omega arith in
