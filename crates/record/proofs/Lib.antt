@@ -1,3 +1,3 @@
 pub mod Signs
-pub mod Cutting
 pub mod Putting
+pub mod Cutting

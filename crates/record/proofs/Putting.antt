@@ -2,9 +2,9 @@
 use Prim.Native.Nat.{ℕ, _+_, _-_, _≤_, _<_}
 use mathlib.Core.Path.{_≡_, refl, sym, ap, _∙_}
 use mathlib.Core.Bool.{false}
-use mathlib.Core.List.{List, [], _∷_, _++_}
+use mathlib.Core.List.{List, []}
 use native.Mathlib.Omega.{arith}
-use lib.ListN.{length, take, drop}
+use lib.ListN.{length, take, drop, length-take}
 use lib.Seq.{sets, take-all, take-nil, take-at, length-take-le}
 use borrow.Author.Tests.{le-leb, lt-leb}
 use Rattle.reader.specs.Put.{putAnswer, putInto}
@@ -20,30 +20,30 @@ pub put-as : (d : List ℕ) (at : ℕ) {a b : List ℕ} → a ≡ b → {p : Put
 put-as d at e h = rw e at h
 
 pub cut-as : (d : List ℕ) (at : ℕ) {a b : List ℕ} → a ≡ b → {n : ℕ} {x : List ℕ}
-    → (n ≡ at + length (take (127 - at) a)) × (x ≡ sets d at (take (127 - at) a))
-    → (n ≡ at + length (take (127 - at) b)) × (x ≡ sets d at (take (127 - at) b))
+    → (n ≡ at + length (take (127 - at) a)) × (x ≡ putInto (take (127 - at) a) d at)
+    → (n ≡ at + length (take (127 - at) b)) × (x ≡ putInto (take (127 - at) b) d at)
 cut-as d at e h = rw e at h
 
 -- ---- bytes cut at 127
 
-put-sets : (bs d : List ℕ) (at : ℕ) → at + length bs ≤ length d → putInto bs d at ≡ sets d at bs
+pub put-sets : (bs d : List ℕ) (at : ℕ) → at + length bs ≤ length d → putInto bs d at ≡ sets d at bs
 unfolding putInto
 put-sets bs d at h = rw (le-leb _ _ h)
 
-module _ (bs d : List ℕ) (at : ℕ) where
-  pub cut-nothing : [] ≡ bs → (at ≡ at + length (take (127 - at) bs)) × (d ≡ sets d at (take (127 - at) bs))
-  cut-nothing e = cut-as d at e (rw (take-nil {A = ℕ} (127 - at)) (omega arith, refl))
+module _ (bs d : List ℕ) (at : ℕ) (few : at ≤ 127) where
+  pub cut-nothing : 127 ≤ length d → [] ≡ bs → (at ≡ at + length (take (127 - at) bs)) × (d ≡ putInto (take (127 - at) bs) d at)
+  cut-nothing room e =
+      let h : at + 0 ≤ length d = omega arith in
+      cut-as d at e (rw (take-nil {A = ℕ} (127 - at)) (omega arith, sym (put-sets [] d at h)))
 
-  module _ (few : at ≤ 127) (room : 127 ≤ length d) {x : List ℕ} where
+  module _ {x : List ℕ} where
     pub cut-some : 127 - at < length bs → x ≡ putInto (take (127 - at) bs) d at
-        → (127 ≡ at + length (take (127 - at) bs)) × (x ≡ sets d at (take (127 - at) bs))
-    cut-some h e =
-        let l : length (take (127 - at) bs) ≡ 127 - at = length-take-le (127 - at) bs (omega arith) in
-        (omega arith, e ∙ put-sets (take (127 - at) bs) d at (omega arith))
+        → (127 ≡ at + length (take (127 - at) bs)) × (x ≡ putInto (take (127 - at) bs) d at)
+    cut-some h e = let l : length (take (127 - at) bs) ≡ 127 - at = length-take-le (127 - at) bs (omega arith) in (omega arith, e)
 
     pub cut-none : length bs ≤ 127 - at → x ≡ putInto bs d at
-        → (at + length bs ≡ at + length (take (127 - at) bs)) × (x ≡ sets d at (take (127 - at) bs))
-    cut-none h e = rw (take-all (127 - at) bs h) (refl, e ∙ put-sets bs d at (omega arith))
+        → (at + length bs ≡ at + length (take (127 - at) bs)) × (x ≡ putInto (take (127 - at) bs) d at)
+    cut-none h e = rw (take-all (127 - at) bs h) (refl, e)
 
 -- ---- bytes put at the start of a slice that has room for them
 
@@ -74,7 +74,10 @@ module _ (r : Reading) (count : ℕ) (text d : List ℕ) where
   record-small h = (rw (lt-leb 127 (length d) h), rw (lt-leb 127 (length d) h))
 
   pub record-whole : 127 ≤ length d → {n : ℕ} {x : List ℕ}
-      → (n ≡ length (take 127 (writtenOut r count text false))) × (x ≡ sets d 0 (take 127 (writtenOut r count text false)))
+      → (n ≡ length (take 127 (writtenOut r count text false))) × (x ≡ putInto (take 127 (writtenOut r count text false)) d 0)
       → (Next n ≡ recordAnswer r count text d) × (x ≡ recordInto r count text d)
   unfolding recordAnswer recordInto recordOf
-  record-whole h e = (rw (le-leb 127 (length d) h) (ap Next (e .0)), rw (le-leb 127 (length d) h) (e .1))
+  record-whole h e =
+      let w : List ℕ = take 127 (writtenOut r count text false) in
+      let k : 0 + length w ≤ length d = omega (arith, length-take 127 (writtenOut r count text false)) in
+      (rw (le-leb 127 (length d) h) (ap Next (e .0)), rw (le-leb 127 (length d) h) (e .1 ∙ put-sets w d 0 k))

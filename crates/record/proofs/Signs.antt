@@ -98,10 +98,10 @@ unfolding writtenOut piece begins
 next-piece r count b l true = refl
 next-piece r count b l false = piece-case r count b l (eqb b 64)
 
--- the same at a place of the text
-pub piece-at : (r : Reading) (count : ℕ) (text : List ℕ) (i : ℕ) (signed : Bool) → i < length text
-    → writtenOut r count (drop i text) signed
-    ≡ piece r count signed (getD text i 0) ++ writtenOut r count (drop (i + 1) text) (begins signed (getD text i 0))
-piece-at r count text i signed h =
-    ap (λ (l : List ℕ). writtenOut r count l signed) (drop-cons text i 0 h ∙ ap (λ (k : ℕ). getD text i 0 ∷ drop k text) (sym (add-one i)))
-    ∙ next-piece r count (getD text i 0) (drop (i + 1) text) signed
+-- the same at a place of the text, `next` being the flag behind it
+pub piece-at : (r : Reading) (count : ℕ) (text : List ℕ) (i : ℕ) (signed : Bool) {next : Bool} → i < length text → next ≡ begins signed (getD text i 0)
+    → writtenOut r count (drop i text) signed ≡ piece r count signed (getD text i 0) ++ writtenOut r count (drop (i + 1) text) next
+piece-at r count text i signed h e =
+    rw e
+    (ap (λ (l : List ℕ). writtenOut r count l signed) (drop-cons text i 0 h ∙ ap (λ (k : ℕ). getD text i 0 ∷ drop k text) (sym (add-one i)))
+    ∙ next-piece r count (getD text i 0) (drop (i + 1) text) signed)

@@ -1,9 +1,7 @@
 // LOG records: the text of a record, its signs written out, into a lent buffer.
 ghost use mathlib.Core.Path.{_≡_};
-ghost use mathlib.Core.List.{_∷_, []};
 ghost use Prim.Native.Nat.{_+_, _-_, _≤_};
 ghost use lib.ListN.{length, take};
-ghost use lib.Seq.{sets};
 ghost use Rattle.reader.specs.Put.{putAnswer, putInto};
 ghost use Rattle.record.specs.Logging.{signText, recordAnswer, recordInto};
 ghost use Rattle.record.specs.Pieces.{shownBy, plainSign, piece, begins};
@@ -79,7 +77,7 @@ fn put_sign(sign: &mut [u8], r: Reading, count: u32, b: u8) -> Put
 // Writes bytes from a place on, as many as stand before 127: the place behind them.
 fn put_cut(out: &mut [u8], at: usize, bytes: &[u8]) -> usize
     requires { ⌜ (at ≤ 127) × (127 ≤ length (now out)) ⌝ }
-    ensures { λ r. ⌜ (r ≡ at + length (take (127 - at) (now (bytes .entry)))) × (now (out .exit) ≡ sets (now (out .entry)) at (take (127 - at) (now (bytes .entry)))) ⌝ }
+    ensures { λ r. ⌜ (r ≡ at + length (take (127 - at) (now (bytes .entry)))) × (now (out .exit) ≡ putInto (take (127 - at) (now (bytes .entry))) (now (out .entry)) at) ⌝ }
 {
     let room = RECORD - at;
     if room < bytes.len() {
@@ -93,7 +91,7 @@ fn put_cut(out: &mut [u8], at: usize, bytes: &[u8]) -> usize
 // Writes the text of a sign, cut at 127.
 fn write_sign(out: &mut [u8], at: usize, r: Reading, count: u32, b: u8) -> usize
     requires { ⌜ (at ≤ 127) × (127 ≤ length (now out)) ⌝ }
-    ensures { λ n. ⌜ (n ≡ at + length (take (127 - at) (signText r count b))) × (now (out .exit) ≡ sets (now (out .entry)) at (take (127 - at) (signText r count b))) ⌝ }
+    ensures { λ n. ⌜ (n ≡ at + length (take (127 - at) (signText r count b))) × (now (out .exit) ≡ putInto (take (127 - at) (signText r count b)) (now (out .entry)) at) ⌝ }
 {
     let mut sign = [0u8; 10];
     let put = put_sign(&mut sign, r, count, b);
@@ -106,7 +104,7 @@ fn write_sign(out: &mut [u8], at: usize, r: Reading, count: u32, b: u8) -> usize
 // Writes what a byte of the text adds to the record, cut at 127; `signed` tells that `@` stands before.
 fn write_piece(out: &mut [u8], at: usize, r: Reading, count: u32, signed: bool, b: u8) -> usize
     requires { ⌜ (at ≤ 127) × (127 ≤ length (now out)) ⌝ }
-    ensures { λ n. ⌜ (n ≡ at + length (take (127 - at) (piece r count signed b))) × (now (out .exit) ≡ sets (now (out .entry)) at (take (127 - at) (piece r count signed b))) ⌝ }
+    ensures { λ n. ⌜ (n ≡ at + length (take (127 - at) (piece r count signed b))) × (now (out .exit) ≡ putInto (take (127 - at) (piece r count signed b)) (now (out .entry)) at) ⌝ }
 {
     if signed {
         return write_sign(out, at, r, count, b);

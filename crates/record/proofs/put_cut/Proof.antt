@@ -27,7 +27,7 @@ returns : tie.Need-returns
 returns c =
     let s = c .before .before .before .before .before .before .before .before in
     let a = s .args in
-    cut-some (now (a .bytes)) (now (a .out)) (a .at) (s .pre .0) (s .pre .1) (c .before .before .before .before .before .if1 .taken) (c .before .before .put-bytes .ensures .1)
+    cut-some (now (a .bytes)) (now (a .out)) (a .at) (s .pre .0) (c .before .before .before .before .before .if1 .taken) (c .before .before .put-bytes .ensures .1)
 
 put-bytes-requires-2 : tie.Need-put-bytes-requires-2
 put-bytes-requires-2 c κs = search needs
@@ -42,7 +42,7 @@ returns-2 : tie.Need-returns-2
 returns-2 c =
     let s = c .before .before .before .before .before .before .before in
     let a = s .args in
-    cut-none (now (a .bytes)) (now (a .out)) (a .at) (s .pre .0) (s .pre .1) (c .before .before .before .before .if1 .left) (c .before .before .put-bytes2 .ensures .1)
+    cut-none (now (a .bytes)) (now (a .out)) (a .at) (s .pre .0) (c .before .before .before .before .if1 .left) (c .before .before .put-bytes2 .ensures .1)
 
 pub put-cut-spec : {M : Type 1} → statement M
 put-cut-spec =

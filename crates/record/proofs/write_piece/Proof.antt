@@ -20,8 +20,9 @@ returns c =
 
 returns-2 : tie.Need-returns-2
 returns-2 c =
-    let a = c .before .before .before .args in
-    cut-nothing _ (now (a .out)) (a .at) (piece-none (a .r) (a .count) (a .b) (c .before .if1 .left) (c .if2 .taken))
+    let s = c .before .before .before in
+    let a = s .args in
+    cut-nothing _ (now (a .out)) (a .at) (s .pre .0) (s .pre .1) (piece-none (a .r) (a .count) (a .b) (c .before .if1 .left) (c .if2 .taken))
 
 slice-aggregate-put-cut : tie.Need-slice-aggregate-put-cut
 slice-aggregate-put-cut c = search needs

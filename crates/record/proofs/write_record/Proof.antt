@@ -1,14 +1,13 @@
 -- `record::write_record` meets its contract: each turn of the loop is a law on its state, `Cutting`. Assumes nothing.
-use Prim.Native.Nat.{ℕ, _+_, _-_, _≤_}
-use mathlib.Core.Path.{sym, ap, _∙_}
-use mathlib.Core.Bool.{Bool, false}
-use mathlib.Core.List.{List, _++_}
+use Prim.Native.Nat.{ℕ, _-_}
+use mathlib.Core.Path.{ap}
+use mathlib.Core.Bool.{false}
+use mathlib.Core.List.{List}
 use native.Mathlib.Omega.{arith}
 use denote.Ref.{now}
-use lib.ListN.{length, drop, getD, drop-of-length-le}
+use lib.ListN.{length, drop, drop-of-length-le}
 use borrow.Author.Needs.{needs}
 use Rattle.record.specs.Logging.{writtenOut}
-use Rattle.record.specs.Pieces.{piece}
 use Rattle.record.proofs.Signs.{piece-at}
 use Rattle.record.proofs.Cutting.{Cutting, begun, cut-on, cut-done}
 use Rattle.record.proofs.Putting.{record-small, record-whole}
@@ -17,7 +16,7 @@ use Rattle.record.proofs.write_record.Tie as tie
 
 abbrev Inv-loop : tie.InvT-loop
 Inv-loop text r count out₀ n₀ signed₀ i₀ out n signed i =
-    (127 ≤ length out₀) × Cutting out₀ (writtenOut r count text false) out n (writtenOut r count (drop i text) signed)
+    Cutting out₀ (writtenOut r count text false) out n (writtenOut r count (drop i text) signed)
 
 abbrev μ-loop : tie.MeasureT-loop
 μ-loop text r count out₀ n₀ signed₀ i₀ out n signed i = length text - i
@@ -28,7 +27,7 @@ returns c =
     record-small (a .r) (a .count) (now (a .text)) (now (a .out)) (c .if1 .taken)
 
 loop-holds : tie.Need-loop-holds Inv-loop μ-loop
-loop-holds c = (search needs, begun)
+loop-holds c = begun (search needs)
 
 shared-slice-read-b : tie.Need-shared-slice-read-b Inv-loop μ-loop
 shared-slice-read-b c = search needs
@@ -36,7 +35,7 @@ shared-slice-read-b c = search needs
 write-piece-requires : tie.Need-write-piece-requires Inv-loop μ-loop
 write-piece-requires c κs =
     let i = c .before .before .before .loop .inv in
-    (i .1 .few, omega (arith, i .0, i .1 .long))
+    (i .few, omega (arith, i .room, i .long))
 
 begins-sign-requires : tie.Need-begins-sign-requires Inv-loop μ-loop
 begins-sign-requires c κs = search needs
@@ -51,25 +50,22 @@ loop-again : tie.Need-loop-again Inv-loop μ-loop
 loop-again c =
     let t = c .before .before .before .before .before .before in
     let l = t .before .loop in
-    let a = t .before .before .before .before .before .args in (
-      l .inv .0,
-      cut-on _ _
-          (piece-at (a .r) (a .count) (now (a .text)) (l .i) (l .signed) (t .loop-test .taken)
-          ∙ ap (λ (s : Bool). piece (a .r) (a .count) (l .signed) (getD (now (a .text)) (l .i) 0) ++ writtenOut (a .r) (a .count) (drop (l .i + 1) (now (a .text))) s) (sym (c .begins-sign .ensures)))
-          (c .before .before .before .write-piece .ensures)
-          (l .inv .1),
-    )
+    let a = t .before .before .before .before .before .args in
+    cut-on _ _
+    (piece-at (a .r) (a .count) (now (a .text)) (l .i) (l .signed) (t .loop-test .taken) (c .begins-sign .ensures))
+    (c .before .before .before .write-piece .ensures)
+    (l .inv)
 
 same-length : tie.Need-same-length Inv-loop μ-loop
-same-length c = c .before .loop .inv .1 .long
+same-length c = c .before .loop .inv .long
 
 returns-2 : tie.Need-returns-2 Inv-loop μ-loop
 unfolding writtenOut
 returns-2 c =
     let a = c .before .before .before .before .before .args in
     let l = c .before .loop in
-    record-whole (a .r) (a .count) (now (a .text)) (now (a .out)) (l .inv .0)
-    (cut-done (ap (λ (t : List ℕ). writtenOut (a .r) (a .count) t (l .signed)) (drop-of-length-le (now (a .text)) (c .loop-test .left))) (l .inv .1))
+    record-whole (a .r) (a .count) (now (a .text)) (now (a .out)) (l .inv .room)
+    (cut-done (ap (λ (t : List ℕ). writtenOut (a .r) (a .count) t (l .signed)) (drop-of-length-le (now (a .text)) (c .loop-test .left))) (l .inv))
 
 pub write-record-spec : {M : Type 1} → statement M
 write-record-spec =

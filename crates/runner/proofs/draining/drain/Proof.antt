@@ -16,7 +16,7 @@ idle-requires c κs = search needs
 returns : tie.Need-returns
 returns c =
     let a = c .before .before .before .before .before .args in
-    idle-drains (now (a .cells)) (now (a .pool)) (a .s) (now (a .counts)) (now (a .out)) (c .before .before .lowest-ready .ensures) (c .before .if1 .taken) (c .idle .ensures)
+    idle-drains (now (a .cells)) (now (a .pool)) (a .s) (now (a .counts)) (now (a .out)) (c .before .before .lowest-ready .ensures) (omega (arith, c .before .if1 .taken)) (c .idle .ensures)
 
 process-of-requires : tie.Need-process-of-requires
 process-of-requires c κs = search needs
@@ -32,11 +32,11 @@ returns-2 c =
     let m = c .before .before .before in
     let e = m .before .before .before in
     let a = e .before .before .before .before .args in
-    small-drains (now (a .cells)) (now (a .pool)) (a .s) (now (a .counts)) (now (a .out)) (e .before .lowest-ready .ensures) (e .if1 .left)
+    small-drains (now (a .cells)) (now (a .pool)) (a .s) (now (a .counts)) (now (a .out)) (e .before .lowest-ready .ensures) (omega (arith, e .if1 .left))
     (the-turn (a .s) (e .before .lowest-ready .ensures) (m .before .before .process-of .ensures))
     (m .step .ensures)
     (c .before .before .if2 .taken)
-    (c .before .if3 .taken)
+    (omega (arith, c .before .if3 .taken))
     (c .refuse .ensures)
 
 wide-requires : tie.Need-wide-requires
@@ -73,13 +73,13 @@ returns-3 c =
     let m = t .before in
     let e = m .before .before .before in
     let a = e .before .before .before .before .args in
-    does-drain (now (a .cells)) (now (a .pool)) (a .s) (now (a .counts)) (now (a .out)) (e .before .lowest-ready .ensures) (e .if1 .left)
+    does-drain (now (a .cells)) (now (a .pool)) (a .s) (now (a .counts)) (now (a .out)) (e .before .lowest-ready .ensures) (omega (arith, e .if1 .left))
     (the-turn (a .s) (e .before .lowest-ready .ensures) (m .before .before .process-of .ensures))
     (m .step .ensures)
     (w .wide .ensures)
     (v .cell-at .ensures)
     (t .if2 .taken)
-    (w .before .if3 .left)
+    (omega (arith, w .before .if3 .left))
     (c .before .before .before .before .before .perform .ensures)
     (c .before .pauses .ensures)
     (c .step-state .ensures)
@@ -92,7 +92,7 @@ returns-4 c =
     let m = c .before .before in
     let e = m .before .before .before in
     let a = e .before .before .before .before .args in
-    astray-drains (now (a .cells)) (now (a .pool)) (a .s) (now (a .counts)) (now (a .out)) (e .before .lowest-ready .ensures) (e .if1 .left)
+    astray-drains (now (a .cells)) (now (a .pool)) (a .s) (now (a .counts)) (now (a .out)) (e .before .lowest-ready .ensures) (omega (arith, e .if1 .left))
     (the-turn (a .s) (e .before .lowest-ready .ensures) (m .before .before .process-of .ensures))
     (m .step .ensures)
     (c .before .if2 .left)
