@@ -1,4 +1,4 @@
--- Demand 1, of the runner: "The box takes every script, event, table and state there can be, and always comes back. Bad input is refused by a
+-- Demand 1: "The box takes every script, event, table and state there can be, and always comes back. Bad input is refused by a
 -- number in document 01. A refusal hands back the state it was given and leaves each lent buffer with the bytes it had."
 -- That it always comes back is in the functions: none asks anything. Assumes nothing: these are definitions.
 use mathlib.Core.Path.{_≡_}
@@ -7,6 +7,15 @@ use mathlib.Core.Logic.{_⊎_}
 use Prim.Native.Nat.{ℕ, _≤_, _<_}
 use lib.ListN.{length}
 use Rattle.language.specs.declared.Table.{Table}
+use Rattle.language.specs.declared.Fault.{Fault}
+use Rattle.language.specs.declared.Answer.the-variants as answer
+use Rattle.language.specs.Table.{zeros}
+use Rattle.language.specs.Answer as texts
+use Rattle.language.specs.Answer.{compiled}
+use Rattle.lister.specs.declared.Wrong.{Wrong}
+use Rattle.lister.specs.declared.Listed.the-variants as listed
+use Rattle.lister.specs.Listed as tables
+use Rattle.lister.specs.Listed.{listAnswer, listInto}
 use Rattle.runner.specs.Draining.{drained, bufferAfter}
 use Rattle.runner.specs.Calls.{Box, Call}
 use Rattle.promises.specs.Replies.{called, outcomeNumber, replyNumber}
@@ -21,3 +30,20 @@ pub record Spares (t : Table) (b : Box) (out : List ℕ) : Type 0 where
   pub buffer :
       0 < outcomeNumber (drained (t .cells) (t .pool) (b .state) (b .counts) (length out) .outcome) →
       bufferAfter (t .cells) (t .pool) (b .state) (b .counts) out ≡ out
+
+-- the compiler: its numbers are 1 to 12, and "a table handed back by value with a refusal is all zeros"
+pub record RefusesText (text : List ℕ) : Type 0 where
+  pub numbered : (f : Fault) → (1 ≤ texts.numberOf f) × (texts.numberOf f ≤ 12)
+  pub zeroed : (f : Fault) (row : ℕ) → compiled text .answer ≡ answer.Refused f row → compiled text .table ≡ zeros
+
+-- the lister: its numbers are 25 and 26, and the buffer that is lent to it has the bytes it had
+pub record RefusesTable (t : Table) (out : List ℕ) : Type 0 where
+  pub numbered : (w : Wrong) → (25 ≤ tables.numberOf w) × (tables.numberOf w ≤ 26)
+  pub unaltered : (w : Wrong) → listAnswer t out ≡ listed.Refused w → listInto t out ≡ out
+
+-- all of it: every text, every table with every lent buffer, every call on every box
+pub record AltersNothing : Type 0 where
+  pub compiler : (text : List ℕ) → RefusesText text
+  pub lister : (t : Table) (out : List ℕ) → RefusesTable t out
+  pub runner : (t : Table) (b : Box) (q : Call) → Refuses t b q
+  pub drain : (t : Table) (b : Box) (out : List ℕ) → Spares t b out

@@ -1,0 +1,57 @@
+// Reads a script on standard input and prints its listing, or `refused N at L`.
+use compiler::compile;
+use language::Answer;
+use language::Fault;
+use language::Table;
+use libc::STDOUT_FILENO;
+use lister::LISTING;
+use lister::Listed;
+use lister::list;
+
+fn say(text: &[u8]) {
+    io::write_all(STDOUT_FILENO, text);
+}
+
+fn say_byte(n: u8) {
+    io::print_decimal(STDOUT_FILENO, n as u64);
+}
+
+fn say_word(n: u32) {
+    io::print_decimal(STDOUT_FILENO, n as u64);
+}
+
+fn say_refusal(fault: Fault, line: u32) {
+    say(b"refused ");
+    say_byte(fault.number());
+    say(b" at ");
+    say_word(line);
+    say(b"\n");
+}
+
+// A buffer of LISTING bytes has room for every listing.
+fn say_listing(table: Table) {
+    let cells = table.cells;
+    let pool = table.pool;
+    let mut out = [0u8; LISTING];
+    let listed = list(&cells, &pool, table.heads, &mut out);
+    match listed {
+        Listed::Wrote(n) => {
+            if n <= LISTING {
+                say(&out[..n]);
+            }
+        }
+        Listed::Refused(_) => {}
+    }
+}
+
+// One byte more than a text may have is enough to know that it is too long.
+fn main() {
+    let mut text = [0u8; 65537];
+    let n = io::read_full(0, &mut text);
+    let compiled = compile(&text[..n]);
+    let answer = compiled.answer;
+    match answer {
+        Answer::Accepted(_) => say_listing(compiled.table),
+        Answer::Refused(fault, line) => say_refusal(fault, line),
+    }
+}

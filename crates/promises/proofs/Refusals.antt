@@ -1,0 +1,75 @@
+-- DEMAND 1, gathered: a refusal of the compiler, of the lister and of the runner alters nothing. Assumes nothing.
+use mathlib.Core.Path.{_≡_, refl, sym}
+use mathlib.Core.Bool.{Bool, true, false, cond}
+use mathlib.Core.List.{List}
+use Prim.Native.Nat.{ℕ, _≤_}
+use native.Mathlib.Omega.{arith}
+use lib.Dec.{leb}
+use lib.ListN.{length}
+use lib.Seq.{sets}
+use Rattle.reader.proofs.Tests.{true-is-false}
+use Rattle.language.specs.declared.Table.{Table}
+use Rattle.language.specs.declared.Fault.{Fault}
+use Rattle.language.specs.declared.Fault.the-variants as fault
+use Rattle.language.specs.declared.Answer.the-variants as answer
+use Rattle.language.specs.Draft.{Result, accepted, refused}
+use Rattle.language.specs.Table.{zeros}
+use Rattle.language.specs.Answer as texts
+use Rattle.language.specs.Answer.{answered, scriptFrom, compiled}
+use Rattle.accepted.specs.Accepted.{tableRight}
+use Rattle.lister.specs.declared.Wrong.{Wrong}
+use Rattle.lister.specs.declared.Wrong.the-variants.{BadTable, NoRoom}
+use Rattle.lister.specs.declared.Listed.the-variants.{Wrote, Refused}
+use Rattle.lister.specs.Listed as tables
+use Rattle.lister.specs.Listed.{listingOf, listAnswer, listInto}
+use Rattle.promises.specs.Demand1.{RefusesText, RefusesTable, AltersNothing}
+use Rattle.promises.proofs.Demand1.{demand-1, demand-1-lent}
+
+-- ---- the compiler
+
+text-numbered : (f : Fault) → (1 ≤ texts.numberOf f) × (texts.numberOf f ≤ 12)
+unfolding texts.numberOf
+text-numbered fault.TextTooLong = (omega arith, omega arith)
+text-numbered fault.LineTooLong = (omega arith, omega arith)
+text-numbered fault.TooManyLines = (omega arith, omega arith)
+text-numbered fault.NoSuchName = (omega arith, omega arith)
+text-numbered fault.BadRest = (omega arith, omega arith)
+text-numbered fault.TooMuchData = (omega arith, omega arith)
+text-numbered fault.TooManyOmits = (omega arith, omega arith)
+text-numbered fault.TooManyLoops = (omega arith, omega arith)
+text-numbered fault.EndWithoutLoop = (omega arith, omega arith)
+text-numbered fault.LoopLeftOpen = (omega arith, omega arith)
+text-numbered fault.TooManyProcesses = (omega arith, omega arith)
+text-numbered fault.StretchTooLong = (omega arith, omega arith)
+
+zeroed : (r : Result) (f : Fault) (row : ℕ) → answered r .answer ≡ answer.Refused f row → answered r .table ≡ zeros
+unfolding answered
+zeroed (accepted s) f row e = true-is-false (cc)
+zeroed (refused g n) f row e = refl
+
+refuses-text : (text : List ℕ) → RefusesText text
+unfolding compiled
+refuses-text text = record { numbered = text-numbered; zeroed = zeroed (scriptFrom text) }
+
+-- ---- the lister
+
+table-numbered : (w : Wrong) → (25 ≤ tables.numberOf w) × (tables.numberOf w ≤ 26)
+unfolding tables.numberOf
+table-numbered BadTable = (omega arith, omega arith)
+table-numbered NoRoom = (omega arith, omega arith)
+
+unaltered-by : (right room : Bool) (n : ℕ) (w : Wrong) (out written : List ℕ) →
+    cond right (cond room (Wrote n) (Refused NoRoom)) (Refused BadTable) ≡ Refused w → cond right (cond room written out) out ≡ out
+unaltered-by true true n w out written e = true-is-false (cc)
+unaltered-by true false n w out written e = refl
+unaltered-by false room n w out written e = refl
+
+refuses-table : (t : Table) (out : List ℕ) → RefusesTable t out
+unfolding listAnswer listInto
+refuses-table t out = record {
+  numbered = table-numbered;
+  unaltered = λ w e. unaltered-by (tableRight t) (leb (length (listingOf t)) (length out)) (length (listingOf t)) w out (sets out 0 (listingOf t)) e;
+}
+
+pub alters-nothing : AltersNothing
+alters-nothing = record { compiler = refuses-text; lister = refuses-table; runner = demand-1; drain = demand-1-lent }

@@ -1,0 +1,59 @@
+// A script held against its listing, and its run against its outcomes.
+use super::outcomes;
+use super::output::say;
+use super::output::say_number;
+use super::running;
+use language::Table;
+use lister::LISTING;
+use lister::Listed;
+use lister::list;
+use reader::words::is_named;
+
+// Whether the listing of a table is what a file holds.
+fn listing_agrees(table: Table, file: i32) -> bool {
+    let cells = table.cells;
+    let pool = table.pool;
+    let mut out = [0u8; LISTING];
+    let mut held = [0u8; 13671];
+    let n = io::read_full(file, &mut held);
+    let listed = list(&cells, &pool, table.heads, &mut out);
+    match listed {
+        Listed::Wrote(m) => {
+            if m <= LISTING {
+                return is_named(&held, 0, n, &out[..m]);
+            }
+            false
+        }
+        Listed::Refused(_) => false,
+    }
+}
+
+// NAME and what its file's name ends in.
+pub fn open_file(name: &[u8], ending: &[u8]) -> i32 {
+    let mut path = io::buffer();
+    let a = outcomes::word(&mut path, 0, name);
+    let b = outcomes::word(&mut path, a, ending);
+    if b <= 4096 {
+        return os::open_read(&path[..b]);
+    }
+    -1
+}
+
+pub fn check_table(name: &[u8], table: Table) {
+    if listing_agrees(table, open_file(name, b".listing")) {
+        say(b"listing agrees, ");
+    } else {
+        say(b"listing differs, ");
+    }
+    let done = running::started(
+        table,
+        open_file(name, b".operations"),
+        open_file(name, b".outcomes"),
+    );
+    say_number(done.told);
+    if done.agrees {
+        say(b" outcomes agree\n");
+    } else {
+        say(b" outcomes, not all agree\n");
+    }
+}

@@ -1,0 +1,95 @@
+// The line that tells an outcome, written into a lent buffer.
+use process::Copies;
+use process::Received;
+use process::Refusal;
+use process::Taken;
+use reader::Put;
+use reader::writers::put_bytes;
+use reader::writers::put_decimal;
+use reader::writers::put_hex;
+use runner::Outcome;
+
+fn after(put: Put, at: usize) -> usize {
+    match put {
+        Put::Next(end) => end,
+        Put::NoRoom => at,
+    }
+}
+
+pub fn word(text: &mut [u8], at: usize, name: &[u8]) -> usize {
+    let put = put_bytes(text, at, name);
+    after(put, at)
+}
+
+fn byte_number(n: u8) -> u32 {
+    n as u32
+}
+
+fn refusal(text: &mut [u8], why: Refusal) -> usize {
+    let at = word(text, 0, b"refused ");
+    let put = put_decimal(text, at, byte_number(why.number()));
+    after(put, at)
+}
+
+// A word, and the bytes in hex behind it if there are any.
+fn data(text: &mut [u8], name: &[u8], bytes: &[u8]) -> usize {
+    let at = word(text, 0, name);
+    if bytes.len() == 0 {
+        return at;
+    }
+    let next = word(text, at, b" ");
+    let put = put_hex(text, next, bytes);
+    after(put, next)
+}
+
+// The first so many of some bytes.
+fn some_data(text: &mut [u8], name: &[u8], bytes: &[u8], count: usize) -> usize {
+    if count <= bytes.len() {
+        return data(text, name, &bytes[..count]);
+    }
+    0
+}
+
+pub fn drained(text: &mut [u8], outcome: Outcome, bytes: &[u8]) -> usize {
+    match outcome {
+        Outcome::Quiet => word(text, 0, b"quiet"),
+        Outcome::Sent(length) => some_data(text, b"sent", bytes, length.bytes),
+        Outcome::Recorded(length) => some_data(text, b"recorded", bytes, length.bytes),
+        Outcome::Rts(switch) => {
+            if switch.on {
+                return word(text, 0, b"rts on");
+            }
+            word(text, 0, b"rts off")
+        }
+        Outcome::Fchange => word(text, 0, b"fchange"),
+        Outcome::Pause => word(text, 0, b"pause"),
+        Outcome::Resume => word(text, 0, b"resume"),
+        Outcome::Plain => word(text, 0, b"plain"),
+        Outcome::Refused(why) => refusal(text, why),
+    }
+}
+
+pub fn taken(text: &mut [u8], answer: Taken) -> usize {
+    match answer {
+        Taken::Took => word(text, 0, b"took"),
+        Taken::Refused(why) => refusal(text, why),
+    }
+}
+
+fn copies(text: &mut [u8], count: u8, b: u8) -> usize {
+    let twice = [b, b];
+    if count == 0 {
+        return word(text, 0, b"took");
+    }
+    if count == 1 {
+        return data(text, b"took", &twice[..1]);
+    }
+    data(text, b"took", &twice)
+}
+
+pub fn received(text: &mut [u8], answer: Received, b: u8) -> usize {
+    match answer {
+        Received::Took(c) => copies(text, c.count, b),
+        Received::Refused(why) => refusal(text, why),
+    }
+}

@@ -1,0 +1,27 @@
+// What is printed.
+use language::Fault;
+use libc::STDOUT_FILENO;
+
+pub fn say(text: &[u8]) {
+    io::write_all(STDOUT_FILENO, text);
+}
+
+pub fn say_number(n: u64) {
+    io::print_decimal(STDOUT_FILENO, n);
+}
+
+fn say_byte(n: u8) {
+    say_number(n as u64);
+}
+
+fn say_word(n: u32) {
+    say_number(n as u64);
+}
+
+pub fn say_refusal(fault: Fault, line: u32) {
+    say(b"refused ");
+    say_byte(fault.number());
+    say(b" at ");
+    say_word(line);
+    say(b"\n");
+}

@@ -1,0 +1,259 @@
+// A run: an operation at a time, and its outcome told or held against a file's.
+use super::lines;
+use super::lines::Line;
+use super::operations;
+use super::operations::Operation;
+use super::outcomes;
+use super::output::say;
+use language::Cells;
+use language::Heads;
+use language::Pool;
+use language::Table;
+use process::Event;
+use process::Process;
+use process::Reading;
+use process::State;
+use process::Wait;
+use process::events::read_clock;
+use process::events::set_level;
+use process::events::tick;
+use process::receiving::receive;
+use reader::words::is_named;
+use runner::Counts;
+use runner::draining::drain;
+use runner::starting::start;
+
+// The state after an operation, and how long the line is that tells its outcome.
+struct Told {
+    state: State,
+    length: usize,
+}
+
+fn told(e: Event, text: &mut [u8]) -> Told {
+    let state = e.state;
+    let answer = e.answer;
+    let length = outcomes::taken(text, answer);
+    Told { state, length }
+}
+
+// A drain with a lent buffer of so many bytes; no statement writes more than 127.
+fn do_drain<'a>(
+    cells: &'a Cells,
+    pool: &'a Pool,
+    s: State,
+    counts: &mut Counts,
+    size: usize,
+    text: &mut [u8],
+) -> Told {
+    let mut bytes = [0u8; 1024];
+    let n = if size < 1024 { size } else { 1024 };
+    let drained = drain(cells, pool, s, counts, &mut bytes[..n]);
+    let state = drained.state;
+    let outcome = drained.outcome;
+    let length = outcomes::drained(text, outcome, &bytes);
+    Told { state, length }
+}
+
+fn do_byte(pool: &Pool, heads: Heads, s: State, b: u8, text: &mut [u8]) -> Told {
+    let e = receive(pool, heads, s, b);
+    let state = e.state;
+    let answer = e.answer;
+    let length = outcomes::received(text, answer, b);
+    Told { state, length }
+}
+
+fn operate<'a>(
+    cells: &'a Cells,
+    pool: &'a Pool,
+    heads: Heads,
+    s: State,
+    counts: &mut Counts,
+    line: &[u8],
+    text: &mut [u8],
+) -> Told {
+    let asked = operations::operation(line);
+    match asked {
+        Operation::Drain(size) => do_drain(cells, pool, s, counts, size, text),
+        Operation::Byte(b) => do_byte(pool, heads, s, b, text),
+        Operation::Tick => told(tick(s), text),
+        Operation::Clock(r) => told(read_clock(s, r), text),
+        Operation::Level(signal, on) => told(set_level(s, signal, on), text),
+        Operation::Bad => {
+            let length = outcomes::word(text, 0, b"bad operation");
+            Told { state: s, length }
+        }
+    }
+}
+
+// Prints an outcome, or holds it against the next line of a file: false where they differ.
+fn tell(text: &[u8], expected: i32) -> bool {
+    if expected < 0 {
+        say(text);
+        say(b"\n");
+        return true;
+    }
+    let mut line = [0u8; 512];
+    let next = lines::next_line(expected, &mut line);
+    match next {
+        Line::Of(n) => {
+            if is_named(&line, 0, n, text) {
+                return true;
+            }
+            say(b"a run says ");
+            say(text);
+            say(b"\n");
+            false
+        }
+        Line::TooLong => false,
+        Line::End => false,
+    }
+}
+
+// The state after a line of operations, and whether there was one and it was told.
+struct Turn {
+    state: State,
+    goes_on: bool,
+    agrees: bool,
+}
+
+fn turn<'a>(
+    cells: &'a Cells,
+    pool: &'a Pool,
+    heads: Heads,
+    s: State,
+    counts: &mut Counts,
+    from: i32,
+    expected: i32,
+) -> Turn {
+    let mut line = [0u8; 512];
+    let mut text = [0u8; 512];
+    let next = lines::next_line(from, &mut line);
+    match next {
+        Line::Of(n) => {
+            if n <= 512 {
+                let done = operate(cells, pool, heads, s, counts, &line[..n], &mut text);
+                let state = done.state;
+                let length = done.length;
+                if length <= 512 {
+                    let agrees = tell(&text[..length], expected);
+                    return Turn {
+                        state,
+                        goes_on: true,
+                        agrees,
+                    };
+                }
+            }
+            Turn {
+                state: s,
+                goes_on: false,
+                agrees: false,
+            }
+        }
+        Line::TooLong => {
+            let agrees = tell(b"bad operation", expected);
+            Turn {
+                state: s,
+                goes_on: true,
+                agrees,
+            }
+        }
+        Line::End => Turn {
+            state: s,
+            goes_on: false,
+            agrees: true,
+        },
+    }
+}
+
+// How many outcomes were told, and whether each was that of a file and the file had no more.
+pub struct Run {
+    pub told: u64,
+    pub agrees: bool,
+}
+
+// Whether a file of outcomes has no further line.
+fn is_through(expected: i32) -> bool {
+    if expected < 0 {
+        return true;
+    }
+    let mut line = [0u8; 512];
+    let next = lines::next_line(expected, &mut line);
+    match next {
+        Line::Of(_) => false,
+        Line::TooLong => false,
+        Line::End => true,
+    }
+}
+
+fn run<'a>(
+    cells: &'a Cells,
+    pool: &'a Pool,
+    heads: Heads,
+    s: State,
+    counts: &mut Counts,
+    from: i32,
+    expected: i32,
+) -> Run {
+    let mut state = s;
+    let mut told = 0u64;
+    let mut agrees = true;
+    while told < u64::MAX {
+        let t = turn(cells, pool, heads, state, counts, from, expected);
+        let next = t.state;
+        state = next;
+        if t.goes_on {
+            told += 1;
+            if t.agrees {} else {
+                agrees = false;
+            }
+        } else {
+            break;
+        }
+    }
+    if is_through(expected) {
+        return Run { told, agrees };
+    }
+    Run {
+        told,
+        agrees: false,
+    }
+}
+
+// A process that is over, and a state of such: what a start is given, which it does not look at.
+fn over() -> Process {
+    Process {
+        place: 0,
+        end: 0,
+        depth: 0,
+        left: [0; 8],
+        back: [0; 8],
+        wait: Wait::Over,
+    }
+}
+
+fn idle() -> State {
+    State {
+        processes: [over(); 8],
+        reading: Reading {
+            year: 0,
+            month: 1,
+            day: 1,
+            hour: 0,
+            minute: 0,
+            second: 0,
+        },
+        levels: [false; 5],
+        paused: false,
+    }
+}
+
+// Starts the script of a table and takes the operations of a file; an `expected` under 0 has the outcomes printed.
+pub fn started(table: Table, from: i32, expected: i32) -> Run {
+    let cells = table.cells;
+    let pool = table.pool;
+    let heads = table.heads;
+    let mut counts = [0u32; 512];
+    let e = start(&cells, &pool, heads, idle(), &mut counts);
+    let state = e.state;
+    run(&cells, &pool, heads, state, &mut counts, from, expected)
+}
