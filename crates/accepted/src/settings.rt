@@ -12,7 +12,7 @@ ghost use Rattle.accepted.specs.Tests.{one, inUse, firstEmpty, extension
 use super::zeros::bytes_zero;
 use language::Heads;
 use meaning::spelling::is_capital;
-use reader::words::is_named;
+use words::is_named;
 
 fn wide(x: u8) -> usize
     ensures { λ r. ⌜ r ≡ x ⌝ }

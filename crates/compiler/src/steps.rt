@@ -31,7 +31,7 @@ use language::coder::code;
 use meaning::Data;
 use meaning::Letters;
 use meaning::Line;
-use reader::writers::put_bytes;
+use writer::put_bytes;
 
 // The lines go on.
 pub(crate) fn going(work: Work) -> Taken

@@ -9,7 +9,7 @@ use lib.ListN.{length, take, drop, getD}
 use lib.Seq.{sets}
 use borrow.Author.Tests.{lt-ltb, le-ltb, ne-eqb}
 use Rattle.reader.specs.Bytes.{isBlank, all}
-use Rattle.reader.specs.Words.{wordOf, afterWord}
+use Rattle.words.specs.Words.{wordOf, afterWord}
 use Rattle.reader.specs.Hex.{hexAt}
 use Rattle.reader.proofs.Tests.{by-cases}
 use Rattle.language.specs.declared.Fault.the-variants.{LineTooLong, NoSuchName}

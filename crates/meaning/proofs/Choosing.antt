@@ -8,7 +8,7 @@ use lib.ListN.{length, take, drop, getD}
 use borrow.Author.Tests.{lt-ltb, eq-eqb, ne-eqb}
 use Rattle.reader.specs.Ascii.{ascii}
 use Rattle.reader.specs.Bytes.{all, same}
-use Rattle.reader.specs.Words.{skip, argument, afterBlanks, wordEnd}
+use Rattle.words.specs.Words.{skip, argument, afterBlanks, wordEnd}
 use Rattle.language.specs.declared.Fault.the-variants.{NoSuchName}
 use Rattle.language.specs.Script.{Meaning, process, says, end, waitSignal, pause, resume, fault, dataOf}
 use Rattle.language.specs.Table.{cellFor}

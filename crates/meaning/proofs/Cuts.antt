@@ -8,8 +8,8 @@ use lib.Dec.{eqb, eqb·zero-suc, eqb·suc-suc}
 use lib.ListN.{length, take, drop, length-drop}
 use lib.Seq.{take-all, take-length, length-take-le}
 use Rattle.reader.specs.Bytes.{isBlank, all, same}
-use Rattle.reader.specs.Words.{skip, blanks, argument, wordOf, afterWord, afterBlanks, wordEnd, trimmedEnd, isNamed}
-use Rattle.reader.proofs.Places.{blanks-drop, blanks-within, word-drop, word-take, word-within, trim-take, trimmed-within}
+use Rattle.words.specs.Words.{skip, blanks, argument, wordOf, afterWord, afterBlanks, wordEnd, trimmedEnd, isNamed}
+use Rattle.words.proofs.Places.{blanks-drop, blanks-within, word-drop, word-take, word-within, trim-take, trimmed-within}
 
 -- the part from a place to the end
 pub to-end : (s : List ℕ) (n : ℕ) → take (length s - n) (drop n s) ≡ drop n s

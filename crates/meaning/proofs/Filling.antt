@@ -9,7 +9,7 @@ use lib.ListN.{length, take, drop, getD, length-drop}
 use lib.Seq.{sets}
 use borrow.Author.Tests.{le-leb, eq-eqb, ne-eqb}
 use Rattle.reader.specs.Hex.{Said, good, bad, hexAt, bytesOf, hexInto, hexPut}
-use Rattle.reader.specs.Put.{putInto}
+use Rattle.writer.specs.Put.{putInto}
 use Rattle.reader.specs.declared.HexRead.the-variants.{Bytes, Wrong, Full}
 use Rattle.language.specs.declared.Fault.the-variants.{BadRest}
 use Rattle.language.specs.declared.Cell.the-variants.{Send, WaitData, Log}

@@ -5,7 +5,7 @@ use mathlib.Core.Path.{_≡_, refl, sym, ap, _∙_}
 use mathlib.Core.Bool.{Bool, true, false, cond}
 use mathlib.Core.List.{List, [], _∷_}
 use Rattle.reader.specs.Bytes.{isBlank, all, same}
-use Rattle.reader.specs.Words.{argument}
+use Rattle.words.specs.Words.{argument}
 use Rattle.reader.proofs.Same.{same-is, is-same}
 use Rattle.reader.proofs.Tests.{true-is-false}
 use Rattle.language.specs.declared.Fault.the-variants.{NoSuchName, BadRest}

@@ -7,12 +7,12 @@ use language::Fault;
 
 mod clocks;
 mod names;
+mod parts;
 mod settings;
 pub mod spelling;
 mod texts;
 mod times;
 mod waits;
-mod words;
 
 // "At most 127 per line": a lent buffer of this many bytes holds the data of any line.
 pub const ROOM: usize = 128;
@@ -76,7 +76,7 @@ pub fn read_line(line: &[u8], bytes: &mut Data) -> Line
     if first == b':' {
         return texts::send_hex(&line[1..], bytes);
     }
-    if words::only_blanks(line) {
+    if parts::only_blanks(line) {
         return Line::Blank;
     }
     Line::Faulty(Fault::NoSuchName)

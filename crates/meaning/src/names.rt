@@ -8,6 +8,9 @@ ghost use Rattle.meaning.specs.Tells.{Tells};
 ghost use Rattle.meaning.specs.Names.{begins, long};
 use super::Data;
 use super::Line;
+use super::parts::argument;
+use super::parts::bare_name;
+use super::parts::is_name;
 use super::settings::encode;
 use super::settings::ex;
 use super::settings::lfext;
@@ -17,12 +20,9 @@ use super::texts::log;
 use super::texts::omit;
 use super::times::loop_count;
 use super::waits::wait;
-use super::words::argument;
-use super::words::bare_name;
-use super::words::is_name;
 use language::Cell;
 use language::Fault;
-use reader::words::word_end;
+use words::word_end;
 
 // LOOP and LOG.
 fn loop_or_log<'a>(word: &'a [u8], rest: &'a [u8], bytes: &mut Data) -> Line

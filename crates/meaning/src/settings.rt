@@ -4,8 +4,8 @@ ghost use Rattle.language.specs.Meaning.{rtsOf, exIn, stopbitsOf, encodeOf, rai
 ghost use Rattle.meaning.specs.Line.{shown};
 use super::Letters;
 use super::Line;
+use super::parts::is_name;
 use super::spelling::is_capital;
-use super::words::is_name;
 use language::Cell;
 use language::Fault;
 use reader::Number;

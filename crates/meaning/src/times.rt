@@ -6,7 +6,7 @@ ghost use Rattle.language.specs.Meaning.{loopOf, byteOf, timeIn, timeOf};
 ghost use Rattle.meaning.specs.Line.{shown};
 ghost use Rattle.meaning.specs.Parts.{whole};
 use super::Line;
-use super::words::is_name;
+use super::parts::is_name;
 use language::Cell;
 use language::Fault;
 use reader::Number;

@@ -2,7 +2,7 @@
 ghost use Prim.Native.Nat.{_≤_, _<_};
 ghost use mathlib.Core.Path.{_≡_};
 ghost use lib.ListN.{length};
-ghost use Rattle.reader.specs.Words.{skip};
+ghost use Rattle.words.specs.Words.{skip};
 ghost use Rattle.language.specs.Meaning.{lookup, waits, waitOf};
 ghost use Rattle.meaning.specs.Line.{shown};
 ghost use Rattle.meaning.specs.Tells.{Tells};
@@ -11,17 +11,17 @@ ghost use Rattle.meaning.specs.Parts.{levelLine};
 use super::Data;
 use super::Line;
 use super::clocks::wait_clock;
+use super::parts::argument;
+use super::parts::bare_name;
+use super::parts::is_name;
 use super::texts::wait_data;
 use super::times::wait_byte;
 use super::times::wait_time;
-use super::words::argument;
-use super::words::bare_name;
-use super::words::is_name;
 use language::Cell;
 use language::Fault;
 use language::Level;
-use reader::words::after_blanks;
-use reader::words::word_end;
+use words::after_blanks;
+use words::word_end;
 
 // A wait for a level of a signal.
 fn level(signal: u8, on: bool) -> Line

@@ -4,7 +4,7 @@ use mathlib.Core.Bool.{Bool, true, false, cond}
 use mathlib.Core.List.{List, [], _∷_, _++_}
 use lib.ListN.{take}
 use lib.Dec.{eqb}
-use Rattle.reader.specs.Put.{decimal, twoDigits}
+use Rattle.writer.specs.Put.{decimal, twoDigits}
 use Rattle.runner.specs.declared.Reading.{Reading}
 
 -- "`@c` shows the count before this record, in decimal with no leading zeros"; "Dates are two digits from the last reading"; `@@ @r
