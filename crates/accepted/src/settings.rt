@@ -10,8 +10,8 @@ ghost use Rattle.language.specs.Meaning.{isCapital};
 ghost use Rattle.language.specs.Table.{lettersOf};
 ghost use Rattle.accepted.specs.Tests.{one, inUse, firstEmpty, extensionFits, settingsFit, settingsIn, linesIn};
 use super::zeros::bytes_zero;
+use arguments::spelling::is_capital;
 use language::Heads;
-use meaning::spelling::is_capital;
 use words::is_named;
 
 fn wide(x: u8) -> usize

@@ -7,8 +7,8 @@ use native.Mathlib.Omega.{arith}
 use lib.ListN.{length, take, length-append}
 use borrow.Author.Tests.{le-leb, lt-leb}
 use Rattle.writer.specs.Put.{putInto}
-use Rattle.meaning.specs.declared.Letters.{Letters}
-use Rattle.meaning.specs.Line.{lettersFrom}
+use Rattle.arguments.specs.declared.Letters.{Letters}
+use Rattle.arguments.specs.Shown.{lettersFrom}
 use Rattle.language.specs.declared.Heads.{Heads}
 use Rattle.language.specs.declared.Fault.the-variants.{TooManyOmits}
 use Rattle.language.specs.Limits.{omitLimit}

@@ -1,4 +1,4 @@
-// What a script is: the table that it is laid out in, what the compiler answers, and the coder of the table's cells.
+// What a script is: the table that it is laid out in, its cells, and what the compiler answers.
 
 // "Text 65,536 bytes": the longest text.
 pub const TEXT: usize = 65536;
@@ -120,5 +120,3 @@ pub struct Compiled {
     pub answer: Answer,
     pub table: Table,
 }
-
-pub mod coder;

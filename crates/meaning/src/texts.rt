@@ -10,8 +10,8 @@ ghost use Rattle.language.specs.Meaning.{sendSays, markedData, dataSays, omitSa
 ghost use Rattle.meaning.specs.Tells.{Tells, Finds};
 use super::Data;
 use super::Found;
-use super::Line;
-use super::spelling::right_signs;
+use arguments::Line;
+use arguments::spelling::right_signs;
 use language::Cell;
 use language::Fault;
 use language::Span;
