@@ -11,7 +11,7 @@ use lib.Seq.{drop-cons}
 use borrow.Author.Tests.{eq-eqb, ne-eqb, lt-ltb, le-ltb, le-leb, lt-leb}
 use Rattle.reader.specs.Ascii.{ascii}
 use Rattle.reader.specs.Bytes.{all, same}
-use Rattle.reader.specs.Words.{isNamed}
+use Rattle.words.specs.Words.{isNamed}
 use Rattle.language.specs.Meaning.{extension, isCapital}
 use Rattle.language.specs.Table.{lettersOf}
 use Rattle.accepted.specs.Tests.{zeros, extensionFits}

@@ -11,13 +11,13 @@ ghost use Rattle.accepted.specs.Reach.{reaches, wordReach, wordsReach};
 use super::zeros::bytes_zero;
 use super::zeros::words_zero;
 use crate::Reach;
+use arguments::spelling::right_signs;
+use coder::decode;
 use language::Cell;
 use language::Cells;
 use language::Heads;
 use language::Pool;
 use language::Span;
-use language::coder::decode;
-use meaning::spelling::right_signs;
 
 fn wide(x: u16) -> usize
     ensures { λ r. ⌜ r ≡ x ⌝ }

@@ -20,7 +20,7 @@ use process::events::tick;
 use process::receiving::receive;
 use reader::Number;
 use reader::numbers::number;
-use reader::words::is_named;
+use words::is_named;
 use runner::Counts;
 use runner::Outcome;
 use runner::draining::drain;

@@ -8,8 +8,9 @@ use lib.ListN.{length}
 use lib.Seq.{sets}
 use borrow.Author.Tests.{lt-ltb, le-ltb}
 use Rattle.reader.specs.Bytes.{all}
-use Rattle.meaning.specs.declared.Line.{Line}
-use Rattle.meaning.specs.Line.{shown, dataFrom, meaningIn, lineOf, lineData}
+use Rattle.arguments.specs.declared.Line.{Line}
+use Rattle.arguments.specs.Shown.{shown, dataFrom}
+use Rattle.meaning.specs.Line.{meaningIn, lineOf, lineData}
 use Rattle.language.specs.declared.Fault.the-variants.{LineTooLong, TooManyLines}
 use Rattle.language.specs.Limits.{lineLimit, linesLimit, sendRoom, omitRoom}
 use Rattle.language.specs.Script.{Meaning, comment, blank, process, setEx, says, setEncode, setStopbits, setOmit, setLfext, fault}

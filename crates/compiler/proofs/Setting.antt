@@ -6,9 +6,9 @@ use mathlib.Core.List.{List, [], _∷_, _++_}
 use native.Mathlib.Omega.{arith}
 use lib.ListN.{length, take, length-append}
 use borrow.Author.Tests.{le-leb, lt-leb}
-use Rattle.reader.specs.Put.{putInto}
-use Rattle.meaning.specs.declared.Letters.{Letters}
-use Rattle.meaning.specs.Line.{lettersFrom}
+use Rattle.writer.specs.Put.{putInto}
+use Rattle.arguments.specs.declared.Letters.{Letters}
+use Rattle.arguments.specs.Shown.{lettersFrom}
 use Rattle.language.specs.declared.Heads.{Heads}
 use Rattle.language.specs.declared.Fault.the-variants.{TooManyOmits}
 use Rattle.language.specs.Limits.{omitLimit}

@@ -8,7 +8,7 @@ use lib.ListN.{length}
 use borrow.Author.Tests.{leb-true}
 use Rattle.reader.specs.Bytes.{all}
 use Rattle.reader.proofs.Tests.{both-left, both-right}
-use Rattle.meaning.specs.Line.{shown, dataFrom}
+use Rattle.arguments.specs.Shown.{shown, dataFrom}
 use Rattle.language.specs.Script.{Meaning, comment, blank, process, setEx, says, setEncode, setStopbits, setOmit, setLfext, fault}
 use Rattle.language.specs.Meaning.{extension, isCapital}
 use Rattle.language.specs.Right.{meaningRight}

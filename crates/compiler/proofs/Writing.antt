@@ -6,7 +6,7 @@ use mathlib.Core.List.{List, [], _∷_, _++_}
 use native.Mathlib.Omega.{arith}
 use lib.ListN.{length, take, set, length-append}
 use borrow.Author.Tests.{le-leb, lt-leb}
-use Rattle.reader.specs.Put.{putInto}
+use Rattle.writer.specs.Put.{putInto}
 use Rattle.language.specs.declared.Cell.{Cell}
 use Rattle.language.specs.declared.Heads.{Heads}
 use Rattle.language.specs.declared.Fault.{Fault}

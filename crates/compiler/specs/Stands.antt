@@ -13,9 +13,9 @@ use Rattle.language.specs.Script.{Statement, setEncode, setStopbits, setLfext, 
 use Rattle.language.specs.Draft as draft
 use Rattle.language.specs.Draft.{Draft, Nested, now, broken, nest, Taken, going, stop, takeStatement, takeProcess, takeOmit}
 use Rattle.language.specs.Table.{padded, cellFor, wordsFrom, poolOf, endsFrom, headsOf}
-use Rattle.meaning.specs.declared.Line.{Line}
-use Rattle.meaning.specs.declared.Line.the-variants.{Comment, Blank, Process, Ex, Says, Encode, Stopbits, Omit, Lfext, Faulty}
-use Rattle.meaning.specs.Line.{lettersFrom}
+use Rattle.arguments.specs.declared.Line.{Line}
+use Rattle.arguments.specs.declared.Line.the-variants.{Comment, Blank, Process, Ex, Says, Encode, Stopbits, Omit, Lfext, Faulty}
+use Rattle.arguments.specs.Shown.{lettersFrom}
 use Rattle.compiler.specs.declared.Work.{Work}
 use Rattle.compiler.specs.declared.Step.the-variants.{Going, Stop}
 use Rattle.compiler.specs.declared.Taken as code

@@ -4,7 +4,7 @@ ghost use mathlib.Core.Bool.{true};
 ghost use mathlib.Core.List.{List, []};
 ghost use Prim.Native.Nat.{ℕ, _≤_};
 ghost use lib.ListN.{length};
-ghost use Rattle.meaning.specs.Line.{lettersFrom};
+ghost use Rattle.arguments.specs.Shown.{lettersFrom};
 ghost use Rattle.language.specs.Script.{Statement, Settings, setEncode, setStopbits, setLfext, opens, closes, dataOf};
 ghost use Rattle.language.specs.Draft.{Draft, going, withItem, withSettings, takeProcess, beginning, takeOmit, take};
 ghost use Rattle.language.specs.Cell.{coded};
@@ -18,6 +18,9 @@ use super::Work;
 use super::cells::asks;
 use super::cells::count;
 use super::cells::placed;
+use arguments::Letters;
+use arguments::Line;
+use coder::code;
 use language::Cell;
 use language::Cells;
 use language::DATA;
@@ -27,11 +30,8 @@ use language::LOOPS;
 use language::OMITS;
 use language::PROCESSES;
 use language::Pool;
-use language::coder::code;
 use meaning::Data;
-use meaning::Letters;
-use meaning::Line;
-use reader::writers::put_bytes;
+use writer::put_bytes;
 
 // The lines go on.
 pub(crate) fn going(work: Work) -> Taken

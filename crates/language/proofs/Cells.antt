@@ -9,7 +9,6 @@ use native.Mathlib.Omega.{arith}
 use lib.Dec.{ltb, leb, eqb}
 use borrow.Author.Tests.{leb-true, ltb-true, eqb-true, eqb-false, lt-ltb, le-leb}
 use Rattle.reader.proofs.Tests.{both-left, both-right, by-cases, true-is-false}
-use Rattle.language.proofs.Coding.{bit-small}
 use Rattle.language.specs.declared.Span.{Span}
 use Rattle.language.specs.declared.Clock.{Clock}
 use Rattle.language.specs.declared.Cell.{Cell}
@@ -18,6 +17,10 @@ use Rattle.language.specs.Limits.{dataLimit, sendRoom, waitRoom, logRoom
 use Rattle.language.specs.Clock.{Range, range, within}
 use Rattle.language.specs.Right.{timeRight}
 use Rattle.language.specs.Cell.{level, bit, kindOf, spanNumber, clockNumber, argumentOf, coded, spanRight, unitRight, fixedRight, cellRight, when, spanOf, clockOfNumber, cellOf, decoded}
+
+bit-small : (b : Bool) → bit b < 2
+bit-small true = omega arith
+bit-small false = omega arith
 
 -- a word's kind and argument
 kind-back : (k a : ℕ) → (k * 67108864 + a % 67108864) / 67108864 ≡ k

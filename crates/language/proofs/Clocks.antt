@@ -10,10 +10,10 @@ use borrow.Author.Tests.{leb-true}
 use Rattle.reader.specs.Bytes.{same}
 use Rattle.reader.specs.Number.{pairAt}
 use Rattle.reader.specs.Hex.{good, before}
-use Rattle.reader.specs.Put.{twoDigits}
+use Rattle.writer.specs.Put.{twoDigits}
 use Rattle.reader.proofs.Tests.{both-left, both-right, true-is-false, Every}
 use Rattle.reader.proofs.Solid.{Shown, Solid}
-use Rattle.reader.proofs.Back.{pair-back}
+use Rattle.writer.proofs.Back.{pair-back}
 use Rattle.language.specs.Clock.{Range, within, valueBefore, fill, from, clockOf, inTwos, clockLetter, clockText, secondOn, minuteOn, hourOn, dayOn}
 use Rattle.language.specs.Right.{inRanges, clockRight}
 

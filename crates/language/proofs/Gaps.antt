@@ -6,7 +6,7 @@ use mathlib.Core.List.{List, [], _∷_}
 use native.Mathlib.Omega.{arith}
 use lib.ListN.{length}
 use Rattle.reader.specs.Bytes.{isBlank, all}
-use Rattle.reader.specs.Words.{skip, beforeEnd, trimEnd, argument, wordOf, afterWord}
+use Rattle.words.specs.Words.{skip, beforeEnd, trimEnd, argument, wordOf, afterWord}
 use Rattle.reader.proofs.Tests.{both, both-left, both-right, by-cases}
 
 -- ---- what holds of every byte of a line holds of every byte of its parts

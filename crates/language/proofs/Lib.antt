@@ -1,4 +1,3 @@
-pub mod Coding
 pub mod Opened
 pub mod Cells
 pub mod Tables

@@ -10,7 +10,7 @@ use lib.ListN.{length, drop}
 use borrow.Author.Tests.{leb-true, lt-ltb, le-leb, eq-eqb}
 use Rattle.reader.specs.Ascii.{ascii}
 use Rattle.reader.specs.Bytes.{isBlank, all, same}
-use Rattle.reader.specs.Words.{skip, argument, wordOf, afterWord}
+use Rattle.words.specs.Words.{skip, argument, wordOf, afterWord}
 use Rattle.reader.specs.Number.{numberAt}
 use Rattle.reader.specs.Hex.{Said, good, bad, hexAt, hexByteAt}
 use Rattle.reader.specs.declared.Number.{Number}

@@ -2,11 +2,12 @@
 use mathlib.Core.List.{List, []}
 use Prim.Native.Nat.{ℕ}
 use Rattle.reader.specs.Bytes.{isBlank, digitOf, same}
-use Rattle.reader.specs.Words.{skip, wordOf, afterWord, beforeEnd, trimEnd, argument}
+use Rattle.words.specs.Words.{skip, wordOf, afterWord, beforeEnd, trimEnd, argument}
 use Rattle.reader.specs.Number.{ended, numberGo, numberAt, secondOf, pairOf, pairAt}
 use Rattle.reader.specs.Hex as hex
-use Rattle.reader.specs.Hex.{stepOf, hexGo, hexAt, hexSecond, hexByteOf, hexByteAt, capital, hexText}
-use Rattle.reader.specs.Put.{fixed, widthGo, widthOf, decimal, twoDigits}
+use Rattle.reader.specs.Hex.{stepOf, hexGo, hexAt, hexSecond, hexByteOf, hexByteAt}
+use Rattle.writer.specs.Hex.{capital, hexText}
+use Rattle.writer.specs.Put.{fixed, widthGo, widthOf, decimal, twoDigits}
 use Rattle.figures.specs.Flat as flat
 use Rattle.figures.specs.Flat.{fragments}
 use Rattle.figures.specs.Figures.{join, capped, again, looped, figures}

@@ -10,12 +10,12 @@ use lib.ListN.{length, length-append}
 use borrow.Author.Tests.{leb-true}
 use Rattle.reader.specs.Ascii.{ascii}
 use Rattle.reader.specs.Bytes.{all, same}
-use Rattle.reader.specs.Put.{decimal}
-use Rattle.reader.specs.Hex.{hexText}
+use Rattle.writer.specs.Put.{decimal}
+use Rattle.writer.specs.Hex.{hexText}
 use Rattle.reader.proofs.Tests.{all-append, both-left, both-right}
 use Rattle.reader.proofs.Solid.{Solid, solid-append}
-use Rattle.reader.proofs.Decimals.{decimal-few, decimal-solid}
-use Rattle.reader.proofs.Hexes.{hex-solid, hex-length}
+use Rattle.writer.proofs.Decimals.{decimal-few, decimal-solid}
+use Rattle.writer.proofs.Hexes.{hex-solid, hex-length}
 use Rattle.language.specs.Limits.{lineLimit, sendRoom, waitRoom, logRoom}
 use Rattle.language.specs.Clock.{clockText}
 use Rattle.language.specs.Script.{Statement, send, loop, end, waitTime, waitData, waitByte, waitClock, waitSignal, rts, log, fchange, pause, resume, nop, dataOf}

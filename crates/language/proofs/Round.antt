@@ -10,7 +10,7 @@ use borrow.Author.Tests.{le-leb}
 use Rattle.figures.specs.Stretch.{limit}
 use Rattle.reader.specs.Ascii.{ascii}
 use Rattle.reader.specs.Bytes.{all, same}
-use Rattle.reader.specs.Hex.{hexText}
+use Rattle.writer.specs.Hex.{hexText}
 use Rattle.reader.proofs.Tests.{both-left, both-right}
 use Rattle.reader.proofs.Same.{same-is}
 use Rattle.language.specs.Limits.{textLimit, linesLimit, dataLimit, omitLimit, processLimit}

@@ -9,12 +9,13 @@ use lib.ListN.{length}
 use borrow.Author.Tests.{lt-ltb, leb-true, lt-leb}
 use Rattle.reader.specs.Ascii.{ascii}
 use Rattle.reader.specs.Bytes.{all}
-use Rattle.reader.specs.Words.{beforeEnd, trimEnd, argument}
-use Rattle.reader.specs.Hex.{hexAt, hexByteAt, hexByteOf, hexSecond, hexText}
+use Rattle.words.specs.Words.{beforeEnd, trimEnd, argument}
+use Rattle.reader.specs.Hex.{hexAt, hexByteAt, hexByteOf, hexSecond}
+use Rattle.writer.specs.Hex.{hexText}
 use Rattle.reader.proofs.Tests.{both-left, both-right, Every, every-of}
-use Rattle.reader.proofs.Solid.{Shown, Solid, argument-solid}
-use Rattle.reader.proofs.Digits.{capital-digit}
-use Rattle.reader.proofs.Hexes.{hex-solid, hex-length}
+use Rattle.reader.proofs.Solid.{Shown, Solid}
+use Rattle.words.proofs.Solid.{argument-solid}
+use Rattle.writer.proofs.Hexes.{capital-digit, hex-solid, hex-length}
 use Rattle.language.specs.Limits.{omitLimit}
 use Rattle.language.specs.Script.{setEncode, setStopbits, setOmit, setLfext, process}
 use Rattle.language.specs.Meaning.{markedData, omitSays, encodeHex, encodeOf, stopbitsOf, isCapital, raised, raise, extension, lfextOf, meaning}

@@ -11,7 +11,7 @@ use lib.Seq.{append-snoc}
 use borrow.Author.Tests.{ltb-true, ltb-false, leb-true, lt-ltb}
 use Rattle.reader.specs.Ascii.{ascii}
 use Rattle.reader.specs.Bytes.{all, same}
-use Rattle.reader.specs.Hex.{hexText}
+use Rattle.writer.specs.Hex.{hexText}
 use Rattle.reader.proofs.Tests.{all-append, both, both-left, both-right, by-cases}
 use Rattle.language.specs.declared.Fault.the-variants.{LineTooLong, TooManyLines, TooMuchData, TooManyOmits, TooManyLoops, TooManyProcesses}
 use Rattle.language.specs.Limits.{lineLimit, linesLimit, dataLimit, omitLimit, loopLimit, processLimit}

@@ -6,8 +6,8 @@ use lib.ListN.{length}
 use lib.Dec.{leb, eqb}
 use Rattle.reader.specs.Ascii.{ascii}
 use Rattle.reader.specs.Bytes.{all, same}
-use Rattle.reader.specs.Put.{decimal}
-use Rattle.reader.specs.Hex.{hexText}
+use Rattle.writer.specs.Put.{decimal}
+use Rattle.writer.specs.Hex.{hexText}
 use Rattle.language.specs.Limits.{sendRoom, waitRoom}
 use Rattle.language.specs.Clock.{clockText}
 use Rattle.language.specs.Script.{Statement, send, loop, end, waitTime, waitData, waitByte, waitClock, waitSignal, rts, log, fchange, pause, resume, nop, Encode, unset, byte, Settings, Item, does, next, Script}

@@ -7,7 +7,7 @@ use lib.ListN.{length, drop}
 use lib.Dec.{ltb, leb, eqb}
 use Rattle.reader.specs.Ascii.{ascii}
 use Rattle.reader.specs.Bytes.{isBlank, all, same}
-use Rattle.reader.specs.Words.{skip, argument, wordOf, afterWord}
+use Rattle.words.specs.Words.{skip, argument, wordOf, afterWord}
 use Rattle.reader.specs.Number.{numberAt}
 use Rattle.reader.specs.Hex.{Said, good, bad, hexAt, hexByteAt}
 use Rattle.reader.specs.declared.Number.{Number}

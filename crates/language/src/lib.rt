@@ -1,4 +1,4 @@
-// What a script is: the table that it is laid out in, what the compiler answers, and the coder of the table's cells.
+// What a script is: the table that it is laid out in, its cells, and what the compiler answers.
 ghost use mathlib.Core.Path.{_≡_};
 ghost use Rattle.language.specs.Answer.{numberOf};
 
@@ -144,5 +144,3 @@ pub struct Compiled {
     pub answer: Answer,
     pub table: Table,
 }
-
-pub mod coder;

@@ -7,7 +7,7 @@ use native.Mathlib.Omega.{arith}
 use lib.Dec.{ltb, leb, eqb}
 use lib.ListN.{drop}
 use borrow.Author.Tests.{le-leb, lt-ltb, le-ltb, eq-eqb, ne-eqb}
-use Rattle.reader.specs.Put.{twoDigits}
+use Rattle.writer.specs.Put.{twoDigits}
 use Rattle.language.specs.declared.Clock.{Clock}
 use Rattle.language.specs.Clock.{inTwos, clockLetter, clockText}
 use Rattle.language.specs.Cell.{fixedUnits}

@@ -7,7 +7,7 @@ use native.Mathlib.Numerals.{add-one}
 use native.Mathlib.Omega.{arith}
 use lib.ListN.{length, drop, getD, set, length-append}
 use lib.Seq.{drop-cons, sets, length-sets}
-use Rattle.reader.proofs.Joined.{sets-append}
+use Rattle.writer.proofs.Joined.{sets-append}
 use Rattle.lister.specs.Printed.{Within, Printed}
 
 -- nothing written

@@ -6,10 +6,10 @@ use native.Mathlib.Omega.{arith}
 use lib.ListN.{length, take, drop}
 use lib.Seq.{take-at}
 use borrow.Author.Tests.{le-leb}
-use Rattle.reader.specs.declared.Put.{Put}
-use Rattle.reader.specs.declared.Put.the-variants.{Next, NoRoom}
-use Rattle.reader.specs.Put.{putAnswer, putInto}
-use Rattle.reader.proofs.Joined.{put-length, put-there}
+use Rattle.writer.specs.declared.Put.{Put}
+use Rattle.writer.specs.declared.Put.the-variants.{Next, NoRoom}
+use Rattle.writer.specs.Put.{putAnswer, putInto}
+use Rattle.writer.proofs.Joined.{put-length, put-there}
 
 module _ (bs d : List ℕ) {x : Put} (told : x ≡ putAnswer bs d 0) (fits : length bs ≤ length d) where
   room : 0 + length bs ≤ length d

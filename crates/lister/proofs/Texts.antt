@@ -9,8 +9,8 @@ use lib.ListN.{length, take, drop}
 use borrow.Author.Tests.{leb-true, le-leb, lt-leb, eq-eqb, ne-eqb}
 use Rattle.reader.specs.Ascii.{ascii}
 use Rattle.reader.specs.Bytes.{all}
-use Rattle.reader.specs.Hex.{hexText}
-use Rattle.reader.specs.Put.{decimal}
+use Rattle.writer.specs.Hex.{hexText}
+use Rattle.writer.specs.Put.{decimal}
 use Rattle.reader.proofs.Tests.{both-right}
 use Rattle.language.specs.declared.Span.{Span}
 use Rattle.language.specs.Listing.{isPlain, inHex, dataText, countText, timeText, onText, signalText, logText}

@@ -6,7 +6,7 @@ ghost use Prim.Native.Nat.{_≤_};
 ghost use lib.ListN.{length};
 ghost use Rattle.reader.specs.Ascii.{ascii};
 ghost use Rattle.reader.specs.Bytes.{same};
-ghost use Rattle.reader.specs.Hex.{hexText};
+ghost use Rattle.writer.specs.Hex.{hexText};
 ghost use Rattle.language.specs.Script.{unset, byte};
 ghost use Rattle.language.specs.Listing.{when, encodeLines, joined};
 ghost use Rattle.language.specs.Table.{lettersOf};

@@ -2,7 +2,7 @@
 ghost use mathlib.Core.List.{_++_};
 ghost use Prim.Native.Nat.{_≤_};
 ghost use Rattle.reader.specs.Ascii.{ascii};
-ghost use Rattle.reader.specs.Put.{decimal};
+ghost use Rattle.writer.specs.Put.{decimal};
 ghost use Rattle.language.specs.Cell.{fixedUnits};
 ghost use Rattle.language.specs.Clock.{clockText};
 ghost use Rattle.language.specs.Listing.{countText, timeText, onText, signalText};
@@ -22,7 +22,7 @@ use language::Cell;
 use language::Clock;
 use language::Level;
 use language::Pool;
-use language::coder::decode;
+use coder::decode;
 
 fn loops(out: &mut [u8], at: usize, n: u16) -> usize
     requires { ⌜ Within at (ascii "#LOOP " ++ countText n) ⌝ }

@@ -4,12 +4,12 @@ ghost use mathlib.Core.Bool.{cond};
 ghost use mathlib.Core.List.{[]};
 ghost use Prim.Native.Nat.{_≤_};
 ghost use lib.ListN.{length, take, set};
-ghost use Rattle.reader.specs.Hex.{hexText};
-ghost use Rattle.reader.specs.Put.{decimal, twoDigits};
+ghost use Rattle.writer.specs.Hex.{hexText};
+ghost use Rattle.writer.specs.Put.{decimal, twoDigits};
 ghost use Rattle.lister.specs.Printed.{Within, Printed};
-use reader::Put;
-use reader::writers::put_decimal;
-use reader::writers::put_hex;
+use writer::Put;
+use writer::put_decimal;
+use writer::put_hex;
 
 // Writes a byte, if the slice has the place.
 fn store(out: &mut [u8], at: usize, b: u8)

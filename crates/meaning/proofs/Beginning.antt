@@ -9,19 +9,20 @@ use lib.ListN.{length, take, drop, getD}
 use lib.Seq.{sets}
 use borrow.Author.Tests.{lt-ltb, le-ltb, ne-eqb}
 use Rattle.reader.specs.Bytes.{isBlank, all}
-use Rattle.reader.specs.Words.{wordOf, afterWord}
+use Rattle.words.specs.Words.{wordOf, afterWord}
 use Rattle.reader.specs.Hex.{hexAt}
 use Rattle.reader.proofs.Tests.{by-cases}
 use Rattle.language.specs.declared.Fault.the-variants.{LineTooLong, NoSuchName}
 use Rattle.language.specs.Script.{Meaning, comment, blank, says, send, fault}
 use Rattle.language.specs.Meaning.{lookup, sendSays, names, named, meaning}
-use Rattle.meaning.specs.declared.Line.{Line}
-use Rattle.meaning.specs.declared.Line.the-variants.{Comment, Blank, Faulty}
-use Rattle.meaning.specs.Line.{shown, dataFrom, meaningIn, lineOf, lineData}
+use Rattle.arguments.specs.declared.Line.{Line}
+use Rattle.arguments.specs.declared.Line.the-variants.{Comment, Blank, Faulty}
+use Rattle.arguments.specs.Shown.{shown, dataFrom}
+use Rattle.meaning.specs.Line.{meaningIn, lineOf, lineData}
 use Rattle.meaning.specs.Tells.{Tells}
-use Rattle.meaning.specs.Names.{only}
-use Rattle.meaning.proofs.Cuts.{to-end}
-use Rattle.meaning.proofs.Naming.{parted}
+use Rattle.naming.specs.Names.{only}
+use Rattle.arguments.proofs.Cuts.{to-end}
+use Rattle.naming.proofs.Naming.{parted}
 
 abbrev tail : List ℕ → List ℕ
 tail l = take (length l - 1) (drop 1 l)

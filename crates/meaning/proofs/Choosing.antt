@@ -8,28 +8,21 @@ use lib.ListN.{length, take, drop, getD}
 use borrow.Author.Tests.{lt-ltb, eq-eqb, ne-eqb}
 use Rattle.reader.specs.Ascii.{ascii}
 use Rattle.reader.specs.Bytes.{all, same}
-use Rattle.reader.specs.Words.{skip, argument, afterBlanks, wordEnd}
+use Rattle.words.specs.Words.{skip, argument, afterBlanks, wordEnd}
 use Rattle.language.specs.declared.Fault.the-variants.{NoSuchName}
-use Rattle.language.specs.Script.{Meaning, process, says, end, waitSignal, pause, resume, fault, dataOf}
-use Rattle.language.specs.Table.{cellFor}
+use Rattle.language.specs.Script.{Meaning, fault, dataOf}
 use Rattle.language.specs.Clock.{clockOf}
 use Rattle.language.specs.Meaning.{entry, lookup, bare, signal, waits, names, named, loopOf, waitOf, timeOf, byteOf, clockSays, dataSays, markedData, rtsOf, logOf, encodeOf, stopbitsOf, exIn, omitSays, lfextOf}
-use Rattle.meaning.specs.declared.Line.{Line}
-use Rattle.meaning.specs.Line.{shown, dataFrom}
-use Rattle.meaning.specs.Parts.{bareLine, levelLine}
+use Rattle.arguments.specs.declared.Line.{Line}
+use Rattle.arguments.specs.Shown.{shown, dataFrom}
+use Rattle.arguments.specs.Parts.{bareLine}
 use Rattle.meaning.specs.Tells.{Tells}
-use Rattle.meaning.specs.Names.{only, byteIs, lengthIs, begins, long, waitsLong}
-use Rattle.meaning.proofs.Cuts.{skipped, first-word, behind-word}
-use Rattle.meaning.proofs.Naming.{tells-as, quiet, is-it, is-not, none-named, parted, bare-shown}
+use Rattle.naming.specs.Names.{only, byteIs, lengthIs, begins, long, waitsLong}
+use Rattle.arguments.proofs.Cuts.{skipped, first-word, behind-word}
+use Rattle.naming.proofs.Naming.{is-it, none-named, parted, bare-shown}
+use Rattle.naming.proofs.Choosing.{Not, noneOf}
+use Rattle.meaning.proofs.Telling.{tells-as, quiet}
 use Rattle.meaning.proofs.Dataless.{Dataless, lookup-quiet, bare-quiet, clock-quiet, rts-quiet, ex-quiet}
-
--- the byte at a place is none of these
-abbrev noneOf : ℕ → List ℕ → List ℕ → Bool
-noneOf at bs w = all (λ b. not (eqb (getD w at 0) b)) bs
-
--- a byte or a length that is another, as a `match` or a test tells it
-abbrev Not : ℕ → ℕ → Type 0
-Not b k = b ≡ k → ⊥
 
 module _ (w rest : List ℕ) where
   -- ---- the second words of four bytes
@@ -51,41 +44,6 @@ module _ (w rest : List ℕ) where
   unfolding waitsLong only waits lookup
   none-of-four p e q f r g =
       none-named (waitsLong 4) w rest (sym p ∙ e, (sym q ∙ f, (sym r ∙ g, tt)))
-
-  -- ---- those of five and six, parted by their third byte
-
-  third : (n b : ℕ) → getD w 2 0 ≡ b → lookup (waitsLong n) w rest ≡ lookup (only (byteIs 2 b) (waitsLong n)) w rest
-  third n b e = parted (byteIs 2 b) (waitsLong n) w rest (eq-eqb (getD w 2 0) b e)
-
-  pub signalled : (n b k : ℕ) (on : Bool) (name : List ℕ) {told line : Line} → only (byteIs 2 b) (waitsLong n) ≡ entry name (signal k on) ∷ []
-      → getD w 2 0 ≡ b → told ≡ levelLine k on → line ≡ bareLine w name rest told → line ≡ shown (lookup (waitsLong n) w rest)
-  unfolding levelLine signal
-  signalled n b k on name s e p q =
-      q
-      ∙ bare-shown w name rest (says (waitSignal k on)) (p ∙ unfold shown cellFor in refl)
-      ∙ ap shown (sym (third n b e ∙ ap (λ es. lookup es w rest) s))
-
-  pub clock-named : {t : Bool} → t ≡ same w (ascii "CLOCK") → t ≡ true → lookup (waitsLong 5) w rest ≡ clockSays (clockOf (argument rest))
-  unfolding waitsLong only waits lookup same
-  clock-named p e = is-it (waitsLong 5) w (ascii "CLOCK") rest p e
-
-  pub clock-not : {t : Bool} → getD w 2 0 ≡ 79 → t ≡ same w (ascii "CLOCK") → t ≡ false → lookup (waitsLong 5) w rest ≡ fault NoSuchName
-  unfolding waitsLong only waits lookup
-  clock-not e p f = third 5 79 e ∙ none-named (only (byteIs 2 79) (waitsLong 5)) w rest (sym p ∙ f, tt)
-
-  pub none-of-five : (((((Unit {0} × Not (getD w 2 0) 79) × Not (getD w 2 0) 83) × Not (getD w 2 0) 49) × Not (getD w 2 0) 50) × Not (getD w 2 0) 51) × Not (getD w 2 0) 52
-      → lookup (waitsLong 5) w rest ≡ fault NoSuchName
-  unfolding waitsLong only waits lookup
-  none-of-five n =
-      parted (noneOf 2 (79 ∷ 83 ∷ 49 ∷ 50 ∷ 51 ∷ 52 ∷ [])) (waitsLong 5) w rest
-      (rw (ne-eqb (getD w 2 0) 79 (n .0 .0 .0 .0 .0 .1), ne-eqb (getD w 2 0) 83 (n .0 .0 .0 .0 .1), ne-eqb (getD w 2 0) 49 (n .0 .0 .0 .1), ne-eqb (getD w 2 0) 50 (n .0 .0 .1), ne-eqb (getD w 2 0) 51 (n .0 .1), ne-eqb (getD w 2 0) 52 (n .1)))
-
-  pub none-of-six : ((((Unit {0} × Not (getD w 2 0) 83) × Not (getD w 2 0) 49) × Not (getD w 2 0) 50) × Not (getD w 2 0) 51) × Not (getD w 2 0) 52
-      → lookup (waitsLong 6) w rest ≡ fault NoSuchName
-  unfolding waitsLong only waits lookup
-  none-of-six n =
-      parted (noneOf 2 (83 ∷ 49 ∷ 50 ∷ 51 ∷ 52 ∷ [])) (waitsLong 6) w rest
-      (rw (ne-eqb (getD w 2 0) 83 (n .0 .0 .0 .0 .1), ne-eqb (getD w 2 0) 49 (n .0 .0 .0 .1), ne-eqb (getD w 2 0) 50 (n .0 .0 .1), ne-eqb (getD w 2 0) 51 (n .0 .1), ne-eqb (getD w 2 0) 52 (n .1)))
 
   -- ---- all second words, parted by their length
 
@@ -159,33 +117,11 @@ module _ (w rest : List ℕ) where
   unfolding begins only names lookup
   wait-not p e = none-named (begins 87) w rest (sym p ∙ e, tt)
 
-  -- ---- RTS and RESUME, PAUSE and PROCESS
-
-  pub rts-named : {t : Bool} → t ≡ same w (ascii "#RTS") → t ≡ true → lookup (begins 82) w rest ≡ rtsOf (argument rest)
-  unfolding begins only names lookup same
-  rts-named p e = is-it (begins 82) w (ascii "#RTS") rest p e
-
-  pub rts-not : {t : Bool} {told line : Line} → t ≡ same w (ascii "#RTS") → t ≡ false → told ≡ shown (says resume)
-      → line ≡ bareLine w (ascii "#RESUME") rest told → line ≡ shown (lookup (begins 82) w rest)
-  unfolding begins only names lookup
-  rts-not p e q r = r ∙ bare-shown w (ascii "#RESUME") rest (says resume) q ∙ ap shown (sym (is-not (ascii "#RTS") (λ l. rtsOf (argument l)) (entry (ascii "#RESUME") (bare (says resume)) ∷ []) w rest p e))
+  -- ---- RTS and RESUME, PAUSE and PROCESS: no data
 
   pub r-quiet : Dataless (lookup (begins 82) w rest)
   unfolding begins only names dataFrom dataOf
   r-quiet = lookup-quiet (begins 82) (λ l. rts-quiet (argument l), (bare-quiet _ refl, tt)) w rest
-
-  pub pause-named : {told line : Line} → length w ≡ 6 → told ≡ shown (says pause) → line ≡ bareLine w (ascii "#PAUSE") rest told
-      → line ≡ shown (lookup (begins 80) w rest)
-  unfolding begins only names lookup
-  pause-named e q r = r ∙ bare-shown w (ascii "#PAUSE") rest (says pause) q ∙ ap shown (sym (parted (lengthIs 6) (begins 80) w rest (eq-eqb (length w) 6 e)))
-
-  pub process-named : {told line : Line} → Not (length w) 6 → told ≡ shown process → line ≡ bareLine w (ascii "#PROCESS") rest told
-      → line ≡ shown (lookup (begins 80) w rest)
-  unfolding begins only names lookup
-  process-named e q r =
-      r
-      ∙ bare-shown w (ascii "#PROCESS") rest process q
-      ∙ ap shown (sym (parted (λ v. not (lengthIs 6 v)) (begins 80) w rest (rw (ne-eqb (length w) 6 e))))
 
   pub p-quiet : Dataless (lookup (begins 80) w rest)
   unfolding begins only names dataFrom dataOf
@@ -196,28 +132,6 @@ module _ (w rest : List ℕ) where
   pub ex-long : length w ≡ 6 → lookup (begins 102) w rest ≡ lookup (long 6) w rest
   unfolding long
   ex-long e = parted (lengthIs 6) (begins 102) w rest (eq-eqb (length w) 6 e)
-
-  pub ex-one : {t : Bool} → t ≡ same w (ascii "#f:EX1") → t ≡ true → lookup (long 6) w rest ≡ exIn (argument rest)
-  unfolding long begins only names lookup same
-  ex-one p e = is-it (long 6) w (ascii "#f:EX1") rest p e
-
-  pub ex-two : {t : Bool} → t ≡ same w (ascii "#f:EX2") → t ≡ true → lookup (long 6) w rest ≡ exIn (argument rest)
-  unfolding long begins only names lookup same
-  ex-two p e = is-it (long 6) w (ascii "#f:EX2") rest p e
-
-  pub ex-three : {t : Bool} → t ≡ same w (ascii "#f:EX3") → t ≡ true → lookup (long 6) w rest ≡ exIn (argument rest)
-  unfolding long begins only names lookup same
-  ex-three p e = is-it (long 6) w (ascii "#f:EX3") rest p e
-
-  pub ex-four : {t : Bool} → t ≡ same w (ascii "#f:EX4") → t ≡ true → lookup (long 6) w rest ≡ exIn (argument rest)
-  unfolding long begins only names lookup same
-  ex-four p e = is-it (long 6) w (ascii "#f:EX4") rest p e
-
-  pub no-ex : {t u v x : Bool} → t ≡ same w (ascii "#f:EX1") → t ≡ false → u ≡ same w (ascii "#f:EX2") → u ≡ false → v ≡ same w (ascii "#f:EX3") → v ≡ false
-      → x ≡ same w (ascii "#f:EX4") → x ≡ false → lookup (long 6) w rest ≡ fault NoSuchName
-  unfolding long begins only names lookup
-  no-ex p e q f r g s h =
-      none-named (long 6) w rest (sym p ∙ e, (sym q ∙ f, (sym r ∙ g, (sym s ∙ h, tt))))
 
   pub ex-dataless : Dataless (lookup (long 6) w rest)
   unfolding long begins only names

@@ -15,7 +15,7 @@ use Rattle.reader.proofs.Tests.{by-cases}
 use Rattle.language.specs.declared.Fault.the-variants.{BadRest}
 use Rattle.language.specs.Script.{Statement, loop, waitTime, waitByte, dataOf, Meaning, setEx, says, setEncode, setLfext, fault}
 use Rattle.language.specs.Meaning.{Entry, lookup, bare, numberSays, number, loopOf, byteOf, timeIn, timeBy, timeOf, clockSays, rtsOf, encodeHex, encodeByte, encodeOf, stopbitsOf, extension, raise, lfextOf, exIn}
-use Rattle.meaning.specs.Line.{dataFrom}
+use Rattle.arguments.specs.Shown.{dataFrom}
 
 abbrev pub Dataless : Meaning → Type 0
 Dataless m = dataFrom m ≡ []

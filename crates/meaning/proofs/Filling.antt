@@ -9,7 +9,7 @@ use lib.ListN.{length, take, drop, getD, length-drop}
 use lib.Seq.{sets}
 use borrow.Author.Tests.{le-leb, eq-eqb, ne-eqb}
 use Rattle.reader.specs.Hex.{Said, good, bad, hexAt, bytesOf, hexInto, hexPut}
-use Rattle.reader.specs.Put.{putInto}
+use Rattle.writer.specs.Put.{putInto}
 use Rattle.reader.specs.declared.HexRead.the-variants.{Bytes, Wrong, Full}
 use Rattle.language.specs.declared.Fault.the-variants.{BadRest}
 use Rattle.language.specs.declared.Cell.the-variants.{Send, WaitData, Log}
@@ -18,13 +18,13 @@ use Rattle.language.specs.Table.{cellFor}
 use Rattle.language.specs.Script.{send, log, says, fault, dataOf, Meaning}
 use Rattle.language.specs.Meaning.{markedData, sendSays, dataSays, omitSays, signs, logOf}
 use Rattle.language.proofs.Reading as right
-use Rattle.meaning.specs.declared.Line.the-variants.{Says, Omit, Faulty}
+use Rattle.arguments.specs.declared.Line.the-variants.{Says, Omit, Faulty}
 use Rattle.meaning.specs.declared.Found.{Found}
 use Rattle.meaning.specs.declared.Found.the-variants as Found
-use Rattle.meaning.specs.Line.{shown, dataFrom}
+use Rattle.arguments.specs.Shown.{shown, dataFrom}
 use Rattle.meaning.specs.Parts.{found}
 use Rattle.meaning.specs.Tells.{Tells, Finds}
-use Rattle.meaning.proofs.Cuts.{to-end}
+use Rattle.arguments.proofs.Cuts.{to-end}
 
 -- ---- there is room
 

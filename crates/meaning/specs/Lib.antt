@@ -1,4 +1,3 @@
 pub mod Line
 pub mod Parts
 pub mod Tells
-pub mod Names

@@ -1,50 +1,15 @@
 -- What the code tells of a line: its meaning, with the data beside it.
 use Prim.Native.Nat.{ℕ}
 use mathlib.Core.Bool.{cond}
-use mathlib.Core.List.{List, [], _∷_}
+use mathlib.Core.List.{List}
 use lib.ListN.{length}
 use lib.Dec.{ltb}
 use Rattle.language.specs.declared.Fault.the-variants.{LineTooLong}
 use Rattle.language.specs.Limits.{lineLimit}
-use Rattle.language.specs.Script.{Meaning, comment, blank, process, setEx, says, setEncode, setStopbits, setOmit, setLfext, fault, dataOf}
+use Rattle.language.specs.Script.{Meaning, fault}
 use Rattle.language.specs.Meaning.{meaning}
-use Rattle.language.specs.Table.{cellFor}
-use Rattle.meaning.specs.declared.Letters.{Letters}
-use Rattle.meaning.specs.declared.Line.{Line}
-use Rattle.meaning.specs.declared.Line.the-variants.{Comment, Blank, Process, Ex, Says, Encode, Stopbits, Omit, Lfext, Faulty}
-
--- one to three letters, zeros behind them
-unfoldable pub lettersFrom : List ℕ → Letters
-lettersFrom [] = record { first = 0; second = 0; third = 0 }
-lettersFrom (a ∷ []) = record { first = a; second = 0; third = 0 }
-lettersFrom (a ∷ b ∷ []) = record { first = a; second = b; third = 0 }
-lettersFrom (a ∷ b ∷ c ∷ more) = record { first = a; second = b; third = c }
-
--- a meaning without its data: a statement's cell has them at place 0
-unfoldable pub shown : Meaning → Line
-shown comment = Comment
-shown blank = Blank
-shown process = Process
-shown setEx = Ex
-shown (says s) = Says (cellFor 0 s)
-shown (setEncode b) = Encode b
-shown (setStopbits two) = Stopbits two
-shown (setOmit bs) = Omit (length bs)
-shown (setLfext e) = Lfext (lettersFrom e)
-shown (fault f) = Faulty f
-
--- the data of a meaning
-unfoldable pub dataFrom : Meaning → List ℕ
-dataFrom comment = []
-dataFrom blank = []
-dataFrom process = []
-dataFrom setEx = []
-dataFrom (says s) = dataOf s
-dataFrom (setEncode b) = []
-dataFrom (setStopbits two) = []
-dataFrom (setOmit bs) = bs
-dataFrom (setLfext e) = []
-dataFrom (fault f) = []
+use Rattle.arguments.specs.declared.Line.{Line}
+use Rattle.arguments.specs.Shown.{shown, dataFrom}
 
 -- "line over 127" comes before any other fault of the line
 unfoldable pub meaningIn : List ℕ → Meaning

@@ -6,9 +6,9 @@ use lib.ListN.{length}
 use lib.Seq.{sets}
 use Rattle.reader.specs.Hex.{Said, bytesOf}
 use Rattle.language.specs.Script.{Meaning}
-use Rattle.meaning.specs.declared.Line.{Line}
+use Rattle.arguments.specs.declared.Line.{Line}
 use Rattle.meaning.specs.declared.Found.{Found}
-use Rattle.meaning.specs.Line.{shown, dataFrom}
+use Rattle.arguments.specs.Shown.{shown, dataFrom}
 use Rattle.meaning.specs.Parts.{found}
 
 -- a line with this meaning

@@ -1,28 +1,27 @@
 // The names that a line begins with, parted by their second byte, and those of f: lines by their length.
 ghost use Prim.Native.Nat.{_≤_};
-ghost use mathlib.Core.Path.{_≡_};
 ghost use lib.ListN.{length};
 ghost use Rattle.language.specs.Meaning.{lookup, names, named};
-ghost use Rattle.meaning.specs.Line.{shown};
 ghost use Rattle.meaning.specs.Tells.{Tells};
-ghost use Rattle.meaning.specs.Names.{begins, long};
+ghost use Rattle.naming.specs.Names.{begins};
 use super::Data;
-use super::Line;
-use super::settings::encode;
-use super::settings::ex;
-use super::settings::lfext;
-use super::settings::rts;
-use super::settings::stopbits;
 use super::texts::log;
 use super::texts::omit;
-use super::times::loop_count;
 use super::waits::wait;
-use super::words::argument;
-use super::words::bare_name;
-use super::words::is_name;
+use arguments::Line;
+use arguments::parts::argument;
+use arguments::parts::bare_name;
+use arguments::parts::is_name;
+use arguments::settings::encode;
+use arguments::settings::lfext;
+use arguments::settings::stopbits;
+use arguments::times::loop_count;
 use language::Cell;
 use language::Fault;
-use reader::words::word_end;
+use naming::only_ex;
+use naming::pause_or_process;
+use naming::rts_or_resume;
+use words::word_end;
 
 // LOOP and LOG.
 fn loop_or_log<'a>(word: &'a [u8], rest: &'a [u8], bytes: &mut Data) -> Line
@@ -38,26 +37,6 @@ fn loop_or_log<'a>(word: &'a [u8], rest: &'a [u8], bytes: &mut Data) -> Line
     Line::Faulty(Fault::NoSuchName)
 }
 
-// RTS and RESUME.
-fn rts_or_resume<'a>(word: &'a [u8], rest: &'a [u8]) -> Line
-    ensures { λ r. ⌜ r ≡ shown (lookup (begins 82) (now (word .entry)) (now (rest .entry))) ⌝ }
-{
-    if is_name(word, b"#RTS") {
-        return rts(argument(rest));
-    }
-    bare_name(word, b"#RESUME", rest, Line::Says(Cell::Resume))
-}
-
-// PAUSE and PROCESS.
-fn pause_or_process<'a>(word: &'a [u8], rest: &'a [u8]) -> Line
-    ensures { λ r. ⌜ r ≡ shown (lookup (begins 80) (now (word .entry)) (now (rest .entry))) ⌝ }
-{
-    if word.len() == 6 {
-        return bare_name(word, b"#PAUSE", rest, Line::Says(Cell::Pause));
-    }
-    bare_name(word, b"#PROCESS", rest, Line::Process)
-}
-
 // WAIT.
 fn only_wait<'a>(word: &'a [u8], rest: &'a [u8], bytes: &mut Data) -> Line
     requires { ⌜ length (now rest) ≤ 127 ⌝ }
@@ -65,25 +44,6 @@ fn only_wait<'a>(word: &'a [u8], rest: &'a [u8], bytes: &mut Data) -> Line
 {
     if is_name(word, b"#WAIT") {
         return wait(rest, bytes);
-    }
-    Line::Faulty(Fault::NoSuchName)
-}
-
-// EX1 to EX4.
-fn only_ex<'a>(word: &'a [u8], rest: &'a [u8]) -> Line
-    ensures { λ r. ⌜ r ≡ shown (lookup (long 6) (now (word .entry)) (now (rest .entry))) ⌝ }
-{
-    if is_name(word, b"#f:EX1") {
-        return ex(argument(rest));
-    }
-    if is_name(word, b"#f:EX2") {
-        return ex(argument(rest));
-    }
-    if is_name(word, b"#f:EX3") {
-        return ex(argument(rest));
-    }
-    if is_name(word, b"#f:EX4") {
-        return ex(argument(rest));
     }
     Line::Faulty(Fault::NoSuchName)
 }

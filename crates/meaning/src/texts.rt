@@ -3,22 +3,22 @@ ghost use Prim.Native.Nat.{_≤_};
 ghost use mathlib.Core.Path.{_≡_};
 ghost use lib.ListN.{length};
 ghost use lib.Seq.{sets};
-ghost use Rattle.reader.specs.Words.{skip};
+ghost use Rattle.words.specs.Words.{skip};
 ghost use Rattle.reader.specs.Hex.{hexAt};
 ghost use Rattle.language.specs.Script.{send, says};
 ghost use Rattle.language.specs.Meaning.{sendSays, markedData, dataSays, omitSays, logOf};
 ghost use Rattle.meaning.specs.Tells.{Tells, Finds};
 use super::Data;
 use super::Found;
-use super::Line;
-use super::spelling::right_signs;
+use arguments::Line;
+use arguments::spelling::right_signs;
 use language::Cell;
 use language::Fault;
 use language::Span;
 use reader::HexRead;
 use reader::hex::hex_into;
-use reader::words::after_blanks;
-use reader::writers::put_bytes;
+use words::after_blanks;
+use writer::put_bytes;
 
 // Puts text into the lent bytes as it stands.
 fn put_text(text: &[u8], bytes: &mut Data) -> u16

@@ -1,34 +1,22 @@
-// What WAIT waits for, parted by the length of the second word, and signals by its third byte.
-ghost use Prim.Native.Nat.{_≤_, _<_};
-ghost use mathlib.Core.Path.{_≡_};
+// What WAIT waits for, parted by the length of the second word.
+ghost use Prim.Native.Nat.{_≤_};
 ghost use lib.ListN.{length};
-ghost use Rattle.reader.specs.Words.{skip};
+ghost use Rattle.words.specs.Words.{skip};
 ghost use Rattle.language.specs.Meaning.{lookup, waits, waitOf};
-ghost use Rattle.meaning.specs.Line.{shown};
 ghost use Rattle.meaning.specs.Tells.{Tells};
-ghost use Rattle.meaning.specs.Names.{waitsLong};
-ghost use Rattle.meaning.specs.Parts.{levelLine};
+ghost use Rattle.naming.specs.Names.{waitsLong};
 use super::Data;
-use super::Line;
-use super::clocks::wait_clock;
 use super::texts::wait_data;
-use super::times::wait_byte;
-use super::times::wait_time;
-use super::words::argument;
-use super::words::bare_name;
-use super::words::is_name;
-use language::Cell;
+use arguments::Line;
+use arguments::parts::argument;
+use arguments::parts::is_name;
+use arguments::times::wait_byte;
+use arguments::times::wait_time;
 use language::Fault;
-use language::Level;
-use reader::words::after_blanks;
-use reader::words::word_end;
-
-// A wait for a level of a signal.
-fn level(signal: u8, on: bool) -> Line
-    ensures { λ r. ⌜ r ≡ levelLine signal on ⌝ }
-{
-    Line::Says(Cell::WaitSignal(Level { signal, on }))
-}
+use naming::of_five;
+use naming::of_six;
+use words::after_blanks;
+use words::word_end;
 
 // TIME, DATA and BYTE.
 fn of_four<'a>(word: &'a [u8], rest: &'a [u8], bytes: &mut Data) -> Line
@@ -45,42 +33,6 @@ fn of_four<'a>(word: &'a [u8], rest: &'a [u8], bytes: &mut Data) -> Line
         return wait_byte(argument(rest));
     }
     Line::Faulty(Fault::NoSuchName)
-}
-
-// CLOCK, and signals that are on.
-fn of_five<'a>(word: &'a [u8], rest: &'a [u8]) -> Line
-    requires { ⌜ 2 < length (now word) ⌝ }
-    ensures { λ r. ⌜ r ≡ shown (lookup (waitsLong 5) (now (word .entry)) (now (rest .entry))) ⌝ }
-{
-    match word[2] {
-        b'O' => {
-            if is_name(word, b"CLOCK") {
-                return wait_clock(argument(rest));
-            }
-            Line::Faulty(Fault::NoSuchName)
-        }
-        b'S' => bare_name(word, b"CTSON", rest, level(0, true)),
-        b'1' => bare_name(word, b"EX1ON", rest, level(1, true)),
-        b'2' => bare_name(word, b"EX2ON", rest, level(2, true)),
-        b'3' => bare_name(word, b"EX3ON", rest, level(3, true)),
-        b'4' => bare_name(word, b"EX4ON", rest, level(4, true)),
-        _ => Line::Faulty(Fault::NoSuchName),
-    }
-}
-
-// Signals that are off.
-fn of_six<'a>(word: &'a [u8], rest: &'a [u8]) -> Line
-    requires { ⌜ 2 < length (now word) ⌝ }
-    ensures { λ r. ⌜ r ≡ shown (lookup (waitsLong 6) (now (word .entry)) (now (rest .entry))) ⌝ }
-{
-    match word[2] {
-        b'S' => bare_name(word, b"CTSOFF", rest, level(0, false)),
-        b'1' => bare_name(word, b"EX1OFF", rest, level(1, false)),
-        b'2' => bare_name(word, b"EX2OFF", rest, level(2, false)),
-        b'3' => bare_name(word, b"EX3OFF", rest, level(3, false)),
-        b'4' => bare_name(word, b"EX4OFF", rest, level(4, false)),
-        _ => Line::Faulty(Fault::NoSuchName),
-    }
 }
 
 // The line of a second word, parted by its length.

@@ -7,9 +7,9 @@ ghost use Rattle.process.specs.Following.{followOf, joinedOf};
 ghost use Rattle.process.specs.Moving.{awaits, behind};
 use crate::Follow;
 use crate::Joined;
+use coder::decode;
 use language::Cell;
 use language::Cells;
-use language::coder::decode;
 
 fn follows(c: Cell) -> Follow
     ensures { λ r. ⌜ r ≡ followOf c ⌝ }

@@ -14,12 +14,12 @@ use crate::Wait;
 use crate::joining::joined;
 use crate::waits::awaken;
 use crate::waits::same_level;
+use coder::cell_at;
 use language::Cell;
 use language::Cells;
 use language::LOOPS;
 use language::Level;
 use language::Span;
-use language::coder::cell_at;
 
 fn wide(x: u16) -> usize
     ensures { λ r. ⌜ r ≡ x ⌝ }

@@ -8,7 +8,6 @@ use Rattle.promises.specs.Demand1.{AltersNothing}
 use Rattle.promises.specs.Agrees.{Agrees}
 use Rattle.promises.specs.Demand3.{fresh, after, Bounded}
 use Rattle.promises.specs.Settled.{Settled}
-use Rattle.promises.specs.Cases.{AllHold}
 use Rattle.promises.proofs.Refusals.{alters-nothing}
 use Rattle.promises.proofs.Agreeing.{agrees}
 use Rattle.promises.proofs.Demand3.{demand-3}

@@ -3,11 +3,8 @@ use Prim.Native.Nat.{ℕ, _+_, _-_, _≤_, _<_}
 use mathlib.Core.Path.{_≡_, sym, _∙_}
 use mathlib.Core.Bool.{false}
 use native.Mathlib.Omega.{arith}
-use lib.Dec.{ltb}
-use borrow.Author.Tests.{lt-ltb, le-ltb, ltb-true, ltb-false, ne-eqb}
+use borrow.Author.Tests.{lt-ltb, le-ltb, ne-eqb}
 use Rattle.reader.specs.Bytes.{digitOf, isBlank}
-use Rattle.reader.specs.Hex.{capital}
-use Rattle.reader.proofs.Tests.{by-cases}
 
 pub digit-low : (b : ℕ) → b < 48 → 16 ≡ digitOf b
 unfolding digitOf
@@ -46,16 +43,6 @@ pub digit-is : (d : ℕ) → d < 10 → digitOf (48 + d) ≡ d
 digit-is d h =
     let e : 48 + d - 48 ≡ d = omega arith in
     sym (digit-decimal (48 + d) (omega arith) (omega arith)) ∙ e
-
-pub capital-digit : (d : ℕ) → d < 16 → digitOf (capital d) ≡ d
-unfolding capital
-capital-digit d h =
-    by-cases (λ (b : ℕ). digitOf b ≡ d) (ltb d 10) (48 + d) (55 + d) (λ e. digit-is d (ltb-true d 10 e)) (λ e. letter (ltb-false d 10 e))
-  where
-    letter : 10 ≤ d → digitOf (55 + d) ≡ d
-    letter l =
-        let e : 55 + d - 55 ≡ d = omega arith in
-        sym (digit-capital (55 + d) (omega arith) (omega arith)) ∙ e
 
 pub no-blank : (b : ℕ) → 32 < b → isBlank b ≡ false
 unfolding isBlank

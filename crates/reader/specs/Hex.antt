@@ -1,6 +1,6 @@
 -- Hex data. "`:` sends hex bytes, digits of either case, spaces and tabs as separators, a run of digits cut in twos; a run of odd
 -- length is refused (house reading)."
-use Prim.Native.Nat.{ℕ, _+_, _*_, _/_, _%_}
+use Prim.Native.Nat.{ℕ, _+_, _*_}
 use mathlib.Core.Bool.{cond}
 use mathlib.Core.List.{List, [], _∷_}
 use lib.ListN.{length, drop}
@@ -89,14 +89,3 @@ hexByteOf (a ∷ rest) at = cond (ltb (digitOf a) 16) (hexSecond (digitOf a) res
 -- the byte at a place
 unfoldable pub hexByteAt : List ℕ → ℕ → Number
 hexByteAt s at = hexByteOf (drop at s) at
-
--- ---- "Data in hex, two capital digits and no spaces"
-
--- the capital digit of a value below 16
-unfoldable pub capital : ℕ → ℕ
-capital d = cond (ltb d 10) (48 + d) (55 + d)
-
--- the text of some bytes
-unfoldable pub hexText : List ℕ → List ℕ
-hexText [] = []
-hexText (b ∷ bs) = capital (b / 16) ∷ capital (b % 16) ∷ hexText bs

@@ -1,4 +1,4 @@
-// Bytes, blanks, words, decimal numbers and hex data: read from a place of a slice, and written into a lent one.
+// Bytes, decimal numbers and hex data, read from a place of a slice.
 ghost use Prim.Native.Nat.{_+_};
 ghost use mathlib.Core.Path.{_≡_};
 ghost use lib.Dec.{leb};
@@ -6,8 +6,6 @@ ghost use lib.Dec.{leb};
 pub mod bytes;
 pub mod hex;
 pub mod numbers;
-pub mod words;
-pub mod writers;
 
 // A number with the place after it, or the place of the first byte that cannot be taken.
 pub enum Number {
@@ -36,14 +34,8 @@ pub enum HexRead {
     Full,
 }
 
-// The place after what was written, or that there is no room.
-pub enum Put {
-    Next(usize),
-    NoRoom,
-}
-
 // Whether `need` bytes fit from `at` on into `len`.
-fn has_room(len: usize, at: usize, need: usize) -> bool
+pub fn has_room(len: usize, at: usize, need: usize) -> bool
     ensures { λ r. ⌜ r ≡ leb (at + need) len ⌝ }
 {
     if len < at {

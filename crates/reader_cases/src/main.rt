@@ -3,12 +3,10 @@ use libc::STDOUT_FILENO;
 use reader::HexCount;
 use reader::HexRead;
 use reader::Number;
-use reader::Put;
 use reader::bytes;
 use reader::hex;
 use reader::numbers;
-use reader::words;
-use reader::writers;
+use writer::Put;
 
 fn say(text: &[u8]) {
     io::write_all(STDOUT_FILENO, text);
@@ -128,7 +126,7 @@ fn hex_byte(text: &[u8], at: usize) {
 // Four bytes in hex.
 fn say_four(out: &[u8]) {
     let mut shown = [46u8; 8];
-    writers::put_hex(&mut shown, 0, out);
+    writer::put_hex(&mut shown, 0, out);
     say(b" {");
     say(&shown);
     say(b"}\n");
@@ -172,7 +170,7 @@ fn put_decimal(n: u32, at: usize) {
     say(b" at ");
     say_number(at as u64);
     let mut out = [46u8; 12];
-    let p = writers::put_decimal(&mut out, at, n);
+    let p = writer::put_decimal(&mut out, at, n);
     answer_put(p, &out);
 }
 
@@ -182,7 +180,7 @@ fn put_two_digits(n: u8, at: usize) {
     say(b" at ");
     say_number(at as u64);
     let mut out = [46u8; 4];
-    let p = writers::put_two_digits(&mut out, at, n);
+    let p = writer::put_two_digits(&mut out, at, n);
     answer_put(p, &out);
 }
 
@@ -192,21 +190,21 @@ fn put_hex_digits(b: u8, at: usize) {
     say(b" at ");
     say_number(at as u64);
     let mut out = [46u8; 4];
-    let p = writers::put_hex_digits(&mut out, at, b);
+    let p = writer::put_hex_digits(&mut out, at, b);
     answer_put(p, &out);
 }
 
 fn put_hex(text: &[u8], at: usize) {
     ask(b"put hex", text, at);
     let mut out = [46u8; 8];
-    let p = writers::put_hex(&mut out, at, text);
+    let p = writer::put_hex(&mut out, at, text);
     answer_put(p, &out);
 }
 
 fn put_bytes(text: &[u8], at: usize) {
     ask(b"put bytes", text, at);
     let mut out = [46u8; 8];
-    let p = writers::put_bytes(&mut out, at, text);
+    let p = writer::put_bytes(&mut out, at, text);
     answer_put(p, &out);
 }
 

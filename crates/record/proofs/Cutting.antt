@@ -6,8 +6,8 @@ use mathlib.Core.List.{List, [], _∷_, _++_}
 use native.Mathlib.Omega.{arith}
 use lib.ListN.{length, take, length-append, length-take}
 use lib.Seq.{take-nil}
-use Rattle.reader.specs.Put.{putInto}
-use Rattle.reader.proofs.Joined.{put-length, put-joined}
+use Rattle.writer.specs.Put.{putInto}
+use Rattle.writer.proofs.Joined.{put-length, put-joined}
 use Rattle.record.proofs.Putting.{put-sets}
 
 take-parts : (m : ℕ) (p q : List ℕ) → take m (p ++ q) ≡ take m p ++ take (m - length (take m p)) q

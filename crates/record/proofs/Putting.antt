@@ -7,10 +7,10 @@ use native.Mathlib.Omega.{arith}
 use lib.ListN.{length, take, drop, length-take}
 use lib.Seq.{sets, take-all, take-nil, take-at, length-take-le}
 use borrow.Author.Tests.{le-leb, lt-leb}
-use Rattle.reader.specs.Put.{putAnswer, putInto}
-use Rattle.reader.specs.declared.Put.{Put}
-use Rattle.reader.specs.declared.Put.the-variants.{Next, NoRoom}
-use Rattle.reader.proofs.Joined.{put-there, put-length}
+use Rattle.writer.specs.Put.{putAnswer, putInto}
+use Rattle.writer.specs.declared.Put.{Put}
+use Rattle.writer.specs.declared.Put.the-variants.{Next, NoRoom}
+use Rattle.writer.proofs.Joined.{put-there, put-length}
 use Rattle.process.specs.declared.Reading.{Reading}
 use Rattle.record.specs.Logging.{writtenOut, recordOf, recordAnswer, recordInto}
 

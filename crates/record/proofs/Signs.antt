@@ -9,8 +9,8 @@ use lib.Dec.{eqb}
 use lib.ListN.{length, drop, getD}
 use lib.Seq.{drop-cons}
 use borrow.Author.Tests.{eq-eqb, ne-eqb}
-use Rattle.reader.specs.Put.{decimal, twoDigits}
-use Rattle.reader.proofs.Decimals.{decimal-few}
+use Rattle.writer.specs.Put.{decimal, twoDigits}
+use Rattle.writer.proofs.Decimals.{decimal-few}
 use Rattle.process.specs.declared.Reading.{Reading}
 use Rattle.record.specs.declared.Shown.{Shown}
 use Rattle.record.specs.declared.Shown.the-variants.{Of, Nothing}

@@ -5,9 +5,9 @@ use mathlib.Core.List.{List, [], _∷_, _++_}
 use lib.ListN.{length, take}
 use lib.Seq.{sets}
 use lib.Dec.{eqb, leb}
-use Rattle.reader.specs.Put.{decimal, twoDigits}
-use Rattle.reader.specs.declared.Put.{Put}
-use Rattle.reader.specs.declared.Put.the-variants.{Next, NoRoom}
+use Rattle.writer.specs.Put.{decimal, twoDigits}
+use Rattle.writer.specs.declared.Put.{Put}
+use Rattle.writer.specs.declared.Put.the-variants.{Next, NoRoom}
 use Rattle.process.specs.declared.Reading.{Reading}
 
 -- "`@c` shows the count before this record, in decimal with no leading zeros"; "Dates are two digits from the last reading"; `@@ @r

@@ -4,7 +4,7 @@ use Prim.Native.Nat.{ℕ}
 use mathlib.Core.Bool.{Bool, true, false, cond}
 use mathlib.Core.List.{List, [], _∷_}
 use lib.Dec.{eqb}
-use Rattle.reader.specs.Put.{twoDigits}
+use Rattle.writer.specs.Put.{twoDigits}
 use Rattle.process.specs.declared.Reading.{Reading}
 use Rattle.record.specs.declared.Shown.{Shown}
 use Rattle.record.specs.declared.Shown.the-variants.{Of, Nothing}

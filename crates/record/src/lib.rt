@@ -2,14 +2,14 @@
 ghost use mathlib.Core.Path.{_≡_};
 ghost use Prim.Native.Nat.{_+_, _-_, _≤_};
 ghost use lib.ListN.{length, take};
-ghost use Rattle.reader.specs.Put.{putAnswer, putInto};
+ghost use Rattle.writer.specs.Put.{putAnswer, putInto};
 ghost use Rattle.record.specs.Logging.{signText, recordAnswer, recordInto};
 ghost use Rattle.record.specs.Pieces.{shownBy, plainSign, piece, begins};
 use process::Reading;
-use reader::Put;
-use reader::writers::put_bytes;
-use reader::writers::put_decimal;
-use reader::writers::put_two_digits;
+use writer::Put;
+use writer::put_bytes;
+use writer::put_decimal;
+use writer::put_two_digits;
 
 // "A record is cut after 127 bytes."
 pub const RECORD: usize = 127;

@@ -7,7 +7,7 @@ use language::Table;
 use lister::LISTING;
 use lister::Listed;
 use lister::list;
-use reader::words::is_named;
+use words::is_named;
 
 // Whether the listing of a table is what a file holds.
 fn listing_agrees(table: Table, file: i32) -> bool {

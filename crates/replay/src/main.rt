@@ -3,7 +3,7 @@
 //   replay --check NAME ..    holds NAME.script against NAME.listing, and its run on NAME.operations against NAME.outcomes
 use compiler::compile;
 use language::Answer;
-use reader::words::is_named;
+use words::is_named;
 
 mod checking;
 mod lines;

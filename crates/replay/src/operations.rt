@@ -3,10 +3,10 @@ use process::Reading;
 use reader::Number;
 use reader::hex::hex_byte;
 use reader::numbers::number;
-use reader::words::after_blanks;
-use reader::words::is_named;
-use reader::words::trimmed_end;
-use reader::words::word_end;
+use words::after_blanks;
+use words::is_named;
+use words::trimmed_end;
+use words::word_end;
 
 pub enum Operation {
     Drain(usize),

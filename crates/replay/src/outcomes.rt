@@ -3,10 +3,10 @@ use process::Copies;
 use process::Received;
 use process::Refusal;
 use process::Taken;
-use reader::Put;
-use reader::writers::put_bytes;
-use reader::writers::put_decimal;
-use reader::writers::put_hex;
+use writer::Put;
+use writer::put_bytes;
+use writer::put_decimal;
+use writer::put_hex;
 use runner::Outcome;
 
 fn after(put: Put, at: usize) -> usize {

@@ -18,7 +18,7 @@ use process::events::read_clock;
 use process::events::set_level;
 use process::events::tick;
 use process::receiving::receive;
-use reader::words::is_named;
+use words::is_named;
 use runner::Counts;
 use runner::draining::drain;
 use runner::starting::start;

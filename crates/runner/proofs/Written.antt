@@ -7,9 +7,9 @@ use native.Mathlib.Omega.{arith}
 use lib.ListN.{length, take, drop, length-drop}
 use lib.Seq.{sets, length-take-le}
 use borrow.Author.Tests.{le-leb}
-use Rattle.reader.specs.Put.{putInto}
-use Rattle.reader.specs.declared.Put.{Put}
-use Rattle.reader.specs.declared.Put.the-variants.{Next, NoRoom}
+use Rattle.writer.specs.Put.{putInto}
+use Rattle.writer.specs.declared.Put.{Put}
+use Rattle.writer.specs.declared.Put.the-variants.{Next, NoRoom}
 use Rattle.language.specs.declared.Span.{Span}
 use Rattle.language.specs.declared.Cell.{Cell}
 use Rattle.language.specs.declared.Cell.the-variants.{Send, Log}

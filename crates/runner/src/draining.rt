@@ -17,13 +17,13 @@ use language::Cells;
 use language::PROCESSES;
 use language::Pool;
 use language::Span;
-use language::coder::cell_at;
+use coder::cell_at;
 use process::Process;
 use process::Reading;
 use process::Refusal;
 use process::State;
-use reader::Put;
-use reader::writers::put_bytes;
+use writer::Put;
+use writer::put_bytes;
 use record::write_record;
 
 fn wide(x: u16) -> usize

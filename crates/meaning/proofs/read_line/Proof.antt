@@ -1,6 +1,6 @@
 -- `read_line` meets its contract: each `return` is a law on what the line begins with. Assumes nothing.
 use Rattle.language.specs.Script.{comment, blank}
-use Rattle.meaning.proofs.Naming.{no-name}
+use Rattle.meaning.proofs.Telling.{no-name}
 use Rattle.meaning.proofs.Beginning.{too-long, reads, tells-blank, tells-comment, empty, semicolon, hash, slash, colon, blank-line, unknown-line}
 use borrow.Author.Needs.{needs}
 use Rattle.meaning.proofs.read_line.Statement.{statement}

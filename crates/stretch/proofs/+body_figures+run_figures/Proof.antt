@@ -16,7 +16,7 @@ use Rattle.figures.proofs.Figures.nothing.Reads as nothing
 use Rattle.figures.proofs.Figures.passes.Reads as passes
 use Rattle.figures.proofs.Figures.plain.Reads as plain
 use Rattle.figures.proofs.Figures.sure_rest.Reads as sure-rest
-use Rattle.language.proofs.coder.cell_at.Reads as cell-at
+use Rattle.coder.proofs.cell_at.Reads as cell-at
 use Rattle.stretch.specs.declared.Role.{Role}
 use Rattle.stretch.specs.declared.Role.the-variants.{Other, SureRest, Loop, End}
 use Rattle.stretch.specs.Marks.{marked}

@@ -1,7 +1,7 @@
 -- `lister::lines::data_text` meets its contract. Assumes nothing.
 use denote.Ref.{now}
 use mathlib.Core.List.{[], _∷_}
-use Rattle.reader.specs.Hex.{hexText}
+use Rattle.writer.specs.Hex.{hexText}
 use Rattle.lister.proofs.Printing.{printed-is, printed-more, room-is, first-room, then-room}
 use Rattle.lister.proofs.Texts.{hex-data, text-data, hex-few}
 use borrow.Author.Needs.{needs}

@@ -1,7 +1,7 @@
 -- `lister::lines::time_text` meets its contract. Assumes nothing.
 use Prim.Native.Nat.{_/_}
 use Rattle.reader.specs.Ascii.{ascii}
-use Rattle.reader.specs.Put.{decimal}
+use Rattle.writer.specs.Put.{decimal}
 use Rattle.lister.proofs.Printing.{printed-is, printed-more, room-is, first-room, then-room}
 use Rattle.lister.proofs.Texts.{in-ms, in-s}
 use borrow.Author.Needs.{needs}

@@ -2,7 +2,7 @@
 use native.Mathlib.Omega.{arith}
 use mathlib.Core.List.{[], _∷_}
 use Rattle.reader.specs.Ascii.{ascii}
-use Rattle.reader.specs.Hex.{hexText}
+use Rattle.writer.specs.Hex.{hexText}
 use Rattle.lister.proofs.Printing.{printed-none, printed-is, printed-more, room-is, room-one, room-two, room-three}
 use Rattle.lister.proofs.Setting.{encode-set, encode-unset}
 use borrow.Author.Needs.{needs}

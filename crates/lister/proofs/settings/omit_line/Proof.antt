@@ -3,7 +3,7 @@ use native.Mathlib.Omega.{arith}
 use denote.Ref.{now}
 use mathlib.Core.List.{[], _∷_, _++_}
 use Rattle.reader.specs.Ascii.{ascii}
-use Rattle.reader.specs.Hex.{hexText}
+use Rattle.writer.specs.Hex.{hexText}
 use Rattle.lister.proofs.Printing.{printed-none, printed-is, printed-more, room-is, room-one, room-two, room-three}
 use Rattle.lister.proofs.Setting.{stands, stands-not, omits-none, omits-some}
 use borrow.Author.Needs.{needs}

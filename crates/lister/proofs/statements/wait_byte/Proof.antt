@@ -1,7 +1,7 @@
 -- `lister::statements::wait_byte` meets its contract. Assumes nothing.
 use mathlib.Core.Path.{ap}
 use Rattle.reader.specs.Ascii.{ascii}
-use Rattle.reader.specs.Put.{decimal}
+use Rattle.writer.specs.Put.{decimal}
 use Rattle.lister.proofs.Printing.{printed-is, printed-more, room-is, then-room}
 use borrow.Author.Needs.{needs}
 use Rattle.lister.proofs.statements.wait_byte.Statement.{statement}

@@ -1,7 +1,7 @@
 -- `lister::text::hex` meets its contract. Assumes nothing.
 use denote.Ref.{now}
 use native.Mathlib.Omega.{arith}
-use Rattle.reader.proofs.Hexes.{hex-length}
+use Rattle.writer.proofs.Hexes.{hex-length}
 use Rattle.lister.proofs.Printing.{printed-is, room-is}
 use Rattle.lister.proofs.Scratch.{never, enough, first-bytes}
 use borrow.Author.Needs.{needs}

@@ -1,6 +1,6 @@
 -- `lister::text::number` meets its contract. Assumes nothing.
 use native.Mathlib.Omega.{arith}
-use Rattle.reader.proofs.Decimals.{decimal-few}
+use Rattle.writer.proofs.Decimals.{decimal-few}
 use Rattle.lister.proofs.Printing.{printed-is, room-is}
 use Rattle.lister.proofs.Scratch.{never, enough, first-bytes}
 use borrow.Author.Needs.{needs}

@@ -1,5 +1,5 @@
 -- `lister::text::unit` meets its contract. Assumes nothing.
-use Rattle.reader.specs.Put.{twoDigits}
+use Rattle.writer.specs.Put.{twoDigits}
 use Rattle.lister.proofs.Printing.{printed-none, printed-is, room-is, cond-on, cond-off}
 use borrow.Author.Needs.{needs}
 use Rattle.lister.proofs.text.unit.Statement.{statement}

@@ -4,9 +4,9 @@ use Rattle.reader.specs.Ascii.{ascii}
 use Rattle.language.specs.Script.{says, end, fchange, nop, dataOf}
 use Rattle.language.specs.Table.{cellFor}
 use Rattle.language.specs.Meaning.{names}
-use Rattle.meaning.specs.Line.{shown, dataFrom}
-use Rattle.meaning.specs.Names.{only, begins}
-use Rattle.meaning.proofs.Naming.{tells-as, quiet, no-name}
+use Rattle.arguments.specs.Shown.{shown, dataFrom}
+use Rattle.naming.specs.Names.{only, begins}
+use Rattle.meaning.proofs.Telling.{tells-as, quiet, no-name}
 use Rattle.meaning.proofs.Choosing.{second, bare-named, too-short, no-such-name, r-quiet, p-quiet}
 use borrow.Author.Needs.{needs}
 use Rattle.meaning.proofs.names.by_name.Statement.{statement}

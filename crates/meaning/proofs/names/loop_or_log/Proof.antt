@@ -1,6 +1,6 @@
 -- `loop_or_log` meets its contract: each `return` is an entry of the table. Assumes nothing.
 use Rattle.language.specs.Meaning.{loopOf}
-use Rattle.meaning.proofs.Naming.{tells-as, with-argument, no-name}
+use Rattle.meaning.proofs.Telling.{tells-as, with-argument, no-name}
 use Rattle.meaning.proofs.Dataless.{loop-quiet}
 use Rattle.meaning.proofs.Choosing.{loop-named, log-named, neither-l}
 use borrow.Author.Needs.{needs}

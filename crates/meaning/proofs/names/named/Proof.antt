@@ -1,6 +1,6 @@
 -- `named` meets its contract: the first word and what follows it. Assumes nothing.
-use Rattle.meaning.proofs.Cuts.{word-inside, word-length}
-use Rattle.meaning.proofs.Naming.{tells-as}
+use Rattle.arguments.proofs.Cuts.{word-inside, word-length}
+use Rattle.meaning.proofs.Telling.{tells-as}
 use Rattle.meaning.proofs.Choosing.{first-name}
 use borrow.Author.Needs.{needs}
 use Rattle.meaning.proofs.names.named.Statement.{statement}

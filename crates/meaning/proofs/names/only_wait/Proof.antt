@@ -1,5 +1,5 @@
 -- `only_wait` meets its contract. Assumes nothing.
-use Rattle.meaning.proofs.Naming.{tells-as, no-name}
+use Rattle.meaning.proofs.Telling.{tells-as, no-name}
 use Rattle.meaning.proofs.Choosing.{wait-named, wait-not}
 use borrow.Author.Needs.{needs}
 use Rattle.meaning.proofs.names.only_wait.Statement.{statement}

@@ -1,6 +1,6 @@
 -- `setting` meets its contract: each `return` is an entry of the table. Assumes nothing.
 use Rattle.language.specs.Meaning.{lfextOf, encodeOf, stopbitsOf}
-use Rattle.meaning.proofs.Naming.{tells-as, quiet, with-argument, no-name}
+use Rattle.meaning.proofs.Telling.{tells-as, quiet, with-argument, no-name}
 use Rattle.meaning.proofs.Dataless.{lfext-quiet, encode-quiet, stopbits-quiet}
 use Rattle.meaning.proofs.Choosing.{ex-long, ex-dataless, omit-named, lfext-named, encode-named, stopbits-named, no-setting}
 use borrow.Author.Needs.{needs}

@@ -2,7 +2,7 @@
 use native.Mathlib.Omega.{arith}
 use mathlib.Core.Path.{sym, ap}
 use Rattle.language.specs.Meaning.{markedData}
-use Rattle.meaning.proofs.Cuts.{from-within, skipped}
+use Rattle.arguments.proofs.Cuts.{from-within, skipped}
 use Rattle.meaning.proofs.Filling.{found-as, finds-as, found-few, omits, omits-none}
 use borrow.Author.Needs.{needs}
 use Rattle.meaning.proofs.texts.omit.Statement.{statement}

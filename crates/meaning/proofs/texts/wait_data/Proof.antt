@@ -1,7 +1,7 @@
 -- `wait_data` meets its contract: each `return` is a case of what is found. Assumes nothing.
 use mathlib.Core.Path.{sym, ap}
 use Rattle.language.specs.Meaning.{markedData}
-use Rattle.meaning.proofs.Cuts.{from-within, skipped}
+use Rattle.arguments.proofs.Cuts.{from-within, skipped}
 use Rattle.meaning.proofs.Filling.{found-as, finds-as, waits-for, waits-for-nothing, waits-for-none}
 use borrow.Author.Needs.{needs}
 use Rattle.meaning.proofs.texts.wait_data.Statement.{statement}

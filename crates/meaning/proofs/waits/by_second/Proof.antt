@@ -1,5 +1,5 @@
 -- `by_second` meets its contract: the table is parted by the length of the word. Assumes nothing.
-use Rattle.meaning.proofs.Naming.{tells-as, quiet, no-name}
+use Rattle.meaning.proofs.Telling.{tells-as, quiet, no-name}
 use Rattle.meaning.proofs.Choosing.{so-long, no-second-word, five-quiet, six-quiet}
 use borrow.Author.Needs.{needs}
 use Rattle.meaning.proofs.waits.by_second.Statement.{statement}

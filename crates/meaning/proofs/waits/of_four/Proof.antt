@@ -1,6 +1,6 @@
 -- `of_four` meets its contract: each `return` is an entry of the table. Assumes nothing.
 use Rattle.language.specs.Meaning.{timeOf, byteOf}
-use Rattle.meaning.proofs.Naming.{tells-as, with-argument, no-name}
+use Rattle.meaning.proofs.Telling.{tells-as, with-argument, no-name}
 use Rattle.meaning.proofs.Dataless.{time-quiet, byte-quiet}
 use Rattle.meaning.proofs.Choosing.{time-named, data-named, byte-named, none-of-four}
 use borrow.Author.Needs.{needs}

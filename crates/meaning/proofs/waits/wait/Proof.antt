@@ -1,6 +1,6 @@
 -- `wait` meets its contract: the second word and what follows it. Assumes nothing.
-use Rattle.meaning.proofs.Cuts.{from-within, word-inside, word-length}
-use Rattle.meaning.proofs.Naming.{tells-as}
+use Rattle.arguments.proofs.Cuts.{from-within, word-inside, word-length}
+use Rattle.meaning.proofs.Telling.{tells-as}
 use Rattle.meaning.proofs.Choosing.{second-word}
 use borrow.Author.Needs.{needs}
 use Rattle.meaning.proofs.waits.wait.Statement.{statement}

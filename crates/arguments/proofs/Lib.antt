@@ -1,0 +1,9 @@
+-- parts of a slice, words and blanks
+pub mod Cuts
+-- what stands behind the names of settings
+pub mod Encoding
+pub mod Extension
+-- numbers and times
+pub mod Timing
+-- signs
+pub mod Signing

@@ -1,0 +1,44 @@
+-- `minute_on` meets its contract: the minute stands before the second. Assumes nothing.
+use mathlib.Core.Path.{sym, _∙_}
+use denote.Ref.{now}
+use Rattle.clocks.proofs.Clocking.{goes-on, stops}
+use borrow.Author.Needs.{needs}
+use Rattle.clocks.proofs.minute_on.Statement.{statement}
+use Rattle.clocks.proofs.minute_on.Tie as tie
+
+unit-requires : tie.Need-unit-requires
+unit-requires c κs = search needs
+
+enum-known-minute : tie.Need-enum-known-minute
+enum-known-minute c = search needs
+
+add-second-on : tie.Need-add-second-on
+add-second-on c = search needs
+
+second-on-requires : tie.Need-second-on-requires
+second-on-requires c κs = search needs
+
+enum-told : tie.Need-enum-told
+enum-told c = search needs
+
+returns : tie.Need-returns
+returns c =
+    let a = c .before .before .before .before .before .before .args in
+    c .second-on .ensures ∙ sym (goes-on _ _ (now (a .digits)) (a .at) _ (sym (c .before .before .minute .given .1) ∙ c .before .before .before .before .unit .ensures))
+
+returns-2 : tie.Need-returns-2
+returns-2 c =
+    let a = c .before .before .before .before .args in
+    stops _ _ (now (a .digits)) (a .at) _ (sym (c .enum-told .given .1) ∙ c .before .before .unit .ensures)
+
+pub minute-on-spec : {M : Type 1} → statement M
+minute-on-spec =
+    tie.close
+    (tie.spec
+    unit-requires
+    enum-known-minute
+    add-second-on
+    second-on-requires
+    enum-told
+    returns
+    returns-2)

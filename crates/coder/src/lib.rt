@@ -1,0 +1,315 @@
+// The coder of the table's cells: a cell in one word, and the cell of a word. Nothing else takes a word apart.
+ghost use mathlib.Core.Path.{_≡_};
+ghost use mathlib.Core.Bool.{_&&_};
+ghost use Prim.Native.Nat.{_+_, _*_, _/_, _%_, _<_};
+ghost use lib.Dec.{ltb, leb, eqb};
+ghost use lib.ListN.{getD};
+ghost use Rattle.language.specs.Clock.{range};
+ghost use Rattle.language.specs.Right.{timeRight};
+ghost use Rattle.language.specs.Cell.{level, bit, kindOf, argumentOf, spanNumber, clockNumber, coded, spanRight, unitRight, fixedRight, when, spanOf, clockOfNumber, decoded};
+use language::Cell;
+use language::Cells;
+use language::Clock;
+use language::Level;
+use language::Span;
+
+// A word holds its kind times this, and its argument below.
+const KIND: u32 = 67108864;
+
+// ---- the word of a cell
+
+fn word(kind: u32, argument: u32) -> u32
+    requires { ⌜ kind < 16 ⌝ }
+    ensures { λ r. ⌜ r ≡ kind * 67108864 + argument % 67108864 ⌝ }
+{
+    kind * KIND + argument % KIND
+}
+
+fn span_number(s: Span) -> u32
+    ensures { λ r. ⌜ r ≡ spanNumber s ⌝ }
+{
+    s.from as u32 * 128 + s.count as u32
+}
+
+fn clock_number(c: Clock) -> u32
+    ensures { λ r. ⌜ r ≡ clockNumber c ⌝ }
+{
+    let minutes = c.minute as u32 * 64 + c.second as u32;
+    let hours = c.hour as u32 * 4096 + minutes;
+    let days = c.day as u32 * 131072 + hours;
+    c.fixed as u32 * 4194304 + days
+}
+
+fn flag(on: bool) -> u32
+    ensures { λ r. ⌜ r ≡ bit on ⌝ }
+{
+    if on { 1 } else { 0 }
+}
+
+fn signal_number(l: Level) -> u32
+    ensures { λ r. ⌜ r ≡ l .signal * 2 + bit (l .on) ⌝ }
+{
+    let signal = l.signal as u32 * 2;
+    if l.on { signal + 1 } else { signal }
+}
+
+fn kind(c: Cell) -> u32
+    ensures { λ r. ⌜ r ≡ kindOf c ⌝ }
+{
+    match c {
+        Cell::Nothing => 0,
+        Cell::Send(_) => 1,
+        Cell::Loop(_) => 2,
+        Cell::End => 3,
+        Cell::WaitTime(_) => 4,
+        Cell::WaitData(_) => 5,
+        Cell::WaitByte(_) => 6,
+        Cell::WaitClock(_) => 7,
+        Cell::WaitSignal(_) => 8,
+        Cell::Rts(_) => 9,
+        Cell::Log(_) => 10,
+        Cell::Fchange => 11,
+        Cell::Pause => 12,
+        Cell::Resume => 13,
+        Cell::Nop => 14,
+        Cell::Unknown => 15,
+    }
+}
+
+fn argument(c: Cell) -> u32
+    ensures { λ r. ⌜ r ≡ argumentOf c ⌝ }
+{
+    match c {
+        Cell::Nothing => 0,
+        Cell::Send(s) => span_number(s),
+        Cell::Loop(n) => n as u32,
+        Cell::End => 0,
+        Cell::WaitTime(n) => n,
+        Cell::WaitData(s) => span_number(s),
+        Cell::WaitByte(n) => n as u32,
+        Cell::WaitClock(c) => clock_number(c),
+        Cell::WaitSignal(l) => signal_number(l),
+        Cell::Rts(on) => flag(on),
+        Cell::Log(s) => span_number(s),
+        Cell::Fchange => 0,
+        Cell::Pause => 0,
+        Cell::Resume => 0,
+        Cell::Nop => 0,
+        Cell::Unknown => 0,
+    }
+}
+
+// The word of a cell.
+pub fn code(c: Cell) -> u32
+    ensures { λ r. ⌜ r ≡ coded c ⌝ }
+{
+    word(kind(c), argument(c))
+}
+
+// ---- the cell of a word
+
+// A cell with no argument.
+fn bare(c: Cell, argument: u32) -> Cell
+    ensures { λ r. ⌜ r ≡ when (eqb argument 0) c ⌝ }
+{
+    if argument == 0 { c } else { Cell::Unknown }
+}
+
+// Whether data lie within the pool, and are as many bytes as a line can have.
+fn span_right(argument: u32, low: u32, high: u32) -> bool
+    ensures { λ r. ⌜ r ≡ spanRight low high (spanOf argument) ⌝ }
+{
+    let from = argument / 128;
+    let count = argument % 128;
+    if count < low {
+        return false;
+    }
+    if high < count {
+        return false;
+    }
+    from + count <= 1024
+}
+
+fn span_of(argument: u32) -> Span
+    requires { ⌜ argument < 8388608 ⌝ }
+    ensures { λ r. ⌜ r ≡ spanOf argument ⌝ }
+{
+    Span {
+        from: (argument / 128) as u16,
+        count: (argument % 128) as u16,
+    }
+}
+
+fn send(argument: u32) -> Cell
+    ensures { λ r. ⌜ r ≡ when (spanRight 0 126 (spanOf argument)) (Cell.Send (spanOf argument)) ⌝ }
+{
+    if span_right(argument, 0, 126) {
+        Cell::Send(span_of(argument))
+    } else {
+        Cell::Unknown
+    }
+}
+
+fn wait_data(argument: u32) -> Cell
+    ensures { λ r. ⌜ r ≡ when (spanRight 1 115 (spanOf argument)) (Cell.WaitData (spanOf argument)) ⌝ }
+{
+    if span_right(argument, 1, 115) {
+        Cell::WaitData(span_of(argument))
+    } else {
+        Cell::Unknown
+    }
+}
+
+fn log(argument: u32) -> Cell
+    ensures { λ r. ⌜ r ≡ when (spanRight 0 122 (spanOf argument)) (Cell.Log (spanOf argument)) ⌝ }
+{
+    if span_right(argument, 0, 122) {
+        Cell::Log(span_of(argument))
+    } else {
+        Cell::Unknown
+    }
+}
+
+fn loop_count(argument: u32) -> Cell
+    ensures { λ r. ⌜ r ≡ when (leb argument 60000) (Cell.Loop argument) ⌝ }
+{
+    if argument <= 60000 {
+        Cell::Loop(argument as u16)
+    } else {
+        Cell::Unknown
+    }
+}
+
+fn wait_byte(argument: u32) -> Cell
+    ensures { λ r. ⌜ r ≡ when (leb argument 60000) (Cell.WaitByte argument) ⌝ }
+{
+    if argument <= 60000 {
+        Cell::WaitByte(argument as u16)
+    } else {
+        Cell::Unknown
+    }
+}
+
+// Up to 60,000 ms, or whole seconds up to 60,000.
+fn wait_time(argument: u32) -> Cell
+    ensures { λ r. ⌜ r ≡ when (timeRight argument) (Cell.WaitTime argument) ⌝ }
+{
+    if argument <= 60000 {
+        return Cell::WaitTime(argument);
+    }
+    if argument % 1000 != 0 {
+        return Cell::Unknown;
+    }
+    if argument <= 60000000 {
+        Cell::WaitTime(argument)
+    } else {
+        Cell::Unknown
+    }
+}
+
+// A unit that is fixed is in its range, any other is 0.
+fn unit_right(fixed: bool, low: u8, high: u8, value: u8) -> bool
+    ensures { λ r. ⌜ r ≡ unitRight fixed (range low high) value ⌝ }
+{
+    if fixed {
+        if value < low {
+            return false;
+        }
+        return value <= high;
+    }
+    value == 0
+}
+
+fn both(a: bool, b: bool) -> bool
+    ensures { λ r. ⌜ r ≡ (a && b) ⌝ }
+{
+    if a { b } else { false }
+}
+
+fn fixed_right(c: Clock) -> bool
+    ensures { λ r. ⌜ r ≡ fixedRight c ⌝ }
+{
+    let day = unit_right(4 <= c.fixed, 1, 31, c.day);
+    let hour = unit_right(3 <= c.fixed, 0, 23, c.hour);
+    let minute = unit_right(2 <= c.fixed, 0, 59, c.minute);
+    let second = unit_right(1 <= c.fixed, 0, 59, c.second);
+    both(c.fixed <= 4, both(day, both(hour, both(minute, second))))
+}
+
+fn wait_clock(argument: u32) -> Cell
+    requires { ⌜ argument < 67108864 ⌝ }
+    ensures { λ r. ⌜ r ≡ when (fixedRight (clockOfNumber argument)) (Cell.WaitClock (clockOfNumber argument)) ⌝ }
+{
+    let c = Clock {
+        fixed: (argument / 4194304) as u8,
+        day: (argument / 131072 % 32) as u8,
+        hour: (argument / 4096 % 32) as u8,
+        minute: (argument / 64 % 64) as u8,
+        second: (argument % 64) as u8,
+    };
+    if fixed_right(c) {
+        Cell::WaitClock(c)
+    } else {
+        Cell::Unknown
+    }
+}
+
+fn wait_signal(argument: u32) -> Cell
+    ensures { λ r. ⌜ r ≡ when (ltb argument 10) (Cell.WaitSignal (level (argument / 2) (eqb (argument % 2) 1))) ⌝ }
+{
+    if argument < 10 {
+        return Cell::WaitSignal(Level {
+            signal: (argument / 2) as u8,
+            on: argument % 2 == 1,
+        });
+    }
+    Cell::Unknown
+}
+
+fn rts(argument: u32) -> Cell
+    ensures { λ r. ⌜ r ≡ when (ltb argument 2) (Cell.Rts (eqb argument 1)) ⌝ }
+{
+    if argument < 2 {
+        Cell::Rts(argument == 1)
+    } else {
+        Cell::Unknown
+    }
+}
+
+// The cell of a word; Unknown where no line has such a cell.
+pub fn decode(w: u32) -> Cell
+    ensures { λ r. ⌜ r ≡ decoded w ⌝ }
+{
+    let kind = w / KIND;
+    let argument = w % KIND;
+    match kind {
+        0 => bare(Cell::Nothing, argument),
+        1 => send(argument),
+        2 => loop_count(argument),
+        3 => bare(Cell::End, argument),
+        4 => wait_time(argument),
+        5 => wait_data(argument),
+        6 => wait_byte(argument),
+        7 => wait_clock(argument),
+        8 => wait_signal(argument),
+        9 => rts(argument),
+        10 => log(argument),
+        11 => bare(Cell::Fchange, argument),
+        12 => bare(Cell::Pause, argument),
+        13 => bare(Cell::Resume, argument),
+        14 => bare(Cell::Nop, argument),
+        _ => Cell::Unknown,
+    }
+}
+
+// The cell at a place; behind the last there is nothing.
+pub fn cell_at(cells: &Cells, at: usize) -> Cell
+    ensures { λ r. ⌜ r ≡ decoded (getD (now (cells .entry)) at 0) ⌝ }
+{
+    let words: &[u32] = cells;
+    if at < words.len() {
+        decode(words[at])
+    } else {
+        Cell::Nothing
+    }
+}
