@@ -22,3 +22,7 @@ pub mod Cases
 pub mod Records
 pub mod Recording
 pub mod Counts
+pub mod Refusals
+pub mod Agreeing
+pub mod Settling
+pub mod Promises

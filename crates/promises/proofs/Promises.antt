@@ -7,11 +7,12 @@ use Rattle.promises.specs.Replies.{Compiles}
 use Rattle.promises.specs.Demand1.{AltersNothing}
 use Rattle.promises.specs.Agrees.{Agrees}
 use Rattle.promises.specs.Demand3.{fresh, after, Bounded}
-use Rattle.promises.specs.Settled.{Settled}
+use Rattle.promises.specs.Cases.{All, cases}
+use Rattle.promises.specs.Settled.{Shapes, Settled}
 use Rattle.promises.proofs.Refusals.{alters-nothing}
 use Rattle.promises.proofs.Agreeing.{agrees}
 use Rattle.promises.proofs.Demand3.{demand-3}
-use Rattle.promises.proofs.Settling.{settled}
+use Rattle.promises.proofs.Settling.{shapes, settled}
 use Rattle.promises.proofs.Cases.{cases-hold}
 
 -- 1. Bad input is refused by a number in document 01. A refusal hands back the state it was given and leaves each lent buffer with the bytes it had.
@@ -28,6 +29,13 @@ running-agrees = agrees
 pub a-run-stays-bounded : {text : List ℕ} {t : Table} {k : ℕ} → Compiles text t k → (b : Box) (qs : List Call) → Bounded t k (after t (fresh t b) qs)
 a-run-stays-bounded = demand-3
 
--- Two outcomes that meet a public function's statement are equal, for every public function.
+-- Two outcomes that meet a public function's statement are equal: of the box's functions by name, and of every shape that a statement has.
 pub outcomes-are-one : Settled
 outcomes-are-one = settled
+
+pub statements-settle : Shapes
+statements-settle = shapes
+
+-- Document 01's cases marked P, in a single table.
+pub the-cases-hold : All cases
+the-cases-hold = cases-hold

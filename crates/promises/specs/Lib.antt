@@ -6,3 +6,5 @@ pub mod Demand3
 pub mod Waits
 pub mod Cases
 pub mod Records
+pub mod Agrees
+pub mod Settled
