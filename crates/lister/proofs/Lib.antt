@@ -7,3 +7,4 @@ pub mod Lining
 pub mod Bodies
 pub mod Setting
 pub mod Listing
+pub mod Reported

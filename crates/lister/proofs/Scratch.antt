@@ -8,8 +8,12 @@ use lib.Seq.{take-at}
 use borrow.Author.Tests.{le-leb}
 use Rattle.writer.specs.declared.Put.{Put}
 use Rattle.writer.specs.declared.Put.the-variants.{Next, NoRoom}
-use Rattle.writer.specs.Put.{putAnswer, putInto}
+use Rattle.writer.specs.Put.{putAnswer, putInto, twoDigits}
 use Rattle.writer.proofs.Joined.{put-length, put-there}
+
+pub two-few : (n : ℕ) → length (twoDigits n) ≤ 2
+unfolding twoDigits
+two-few n = omega arith
 
 module _ (bs d : List ℕ) {x : Put} (told : x ≡ putAnswer bs d 0) (fits : length bs ≤ length d) where
   room : 0 + length bs ≤ length d

@@ -10,6 +10,7 @@ ghost use Rattle.lister.specs.Printed.{Within, Printed};
 use writer::Put;
 use writer::put_decimal;
 use writer::put_hex;
+use writer::put_two_digits;
 
 // Writes a byte, if the slice has the place.
 fn store(out: &mut [u8], at: usize, b: u8)
@@ -71,14 +72,27 @@ pub(crate) fn hex(out: &mut [u8], at: usize, bytes: &[u8]) -> usize
     }
 }
 
-// Writes a unit of a clock value in two digits, if it is fixed.
+// Writes a number below 100 in two digits.
+fn two_digits(out: &mut [u8], at: usize, n: u8) -> usize
+    requires { ⌜ Within at (twoDigits n) ⌝ }
+    ensures { λ r. ⌜ Printed (twoDigits n) (now (out .entry)) at r (now (out .exit)) ⌝ }
+{
+    let mut digits = [0u8; 2];
+    let done = put_two_digits(&mut digits, 0, n);
+    match done {
+        Put::Next(count) => put_first(out, at, &digits, count),
+        // Two digits have room in two bytes.
+        Put::NoRoom => at,
+    }
+}
+
+// Writes a unit of a clock value, if it is fixed.
 pub(crate) fn unit(out: &mut [u8], at: usize, is: bool, n: u8) -> usize
     requires { ⌜ Within at (cond is (twoDigits n) []) ⌝ }
     ensures { λ r. ⌜ Printed (cond is (twoDigits n) []) (now (out .entry)) at r (now (out .exit)) ⌝ }
 {
     if is {
-        let digits = [48 + n / 10, 48 + n % 10];
-        return put(out, at, &digits);
+        return two_digits(out, at, n);
     }
     at
 }
