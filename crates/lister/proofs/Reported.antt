@@ -12,7 +12,6 @@ use Rattle.language.specs.declared.Table.{Table}
 use Rattle.accepted.specs.Accepted.{tableRight}
 use Rattle.lister.specs.declared.Wrong.{Wrong}
 use Rattle.lister.specs.declared.Wrong.the-variants.{BadTable, NoRoom}
-use Rattle.lister.specs.declared.Listed.{Listed}
 use Rattle.lister.specs.declared.Listed.the-variants.{Wrote, Refused}
 use Rattle.lister.specs.Listed.{listingOf, listAnswer, listInto}
 

@@ -24,6 +24,7 @@ use language::Level;
 use language::Pool;
 use coder::decode;
 
+// `#LOOP` and how often.
 fn loops(out: &mut [u8], at: usize, n: u16) -> usize
     requires { ⌜ Within at (ascii "#LOOP " ++ countText n) ⌝ }
     ensures { λ r. ⌜ Printed (ascii "#LOOP " ++ countText n) (now (out .entry)) at r (now (out .exit)) ⌝ }
@@ -32,6 +33,7 @@ fn loops(out: &mut [u8], at: usize, n: u16) -> usize
     count_text(out, next, n)
 }
 
+// `#WAIT TIME` and the time.
 fn wait_time(out: &mut [u8], at: usize, n: u32) -> usize
     requires { ⌜ Within at (ascii "#WAIT TIME " ++ timeText n) ⌝ }
     ensures { λ r. ⌜ Printed (ascii "#WAIT TIME " ++ timeText n) (now (out .entry)) at r (now (out .exit)) ⌝ }
@@ -40,6 +42,7 @@ fn wait_time(out: &mut [u8], at: usize, n: u32) -> usize
     time_text(out, next, n)
 }
 
+// `#WAIT BYTE` and how many.
 fn wait_byte(out: &mut [u8], at: usize, n: u16) -> usize
     requires { ⌜ Within at (ascii "#WAIT BYTE " ++ decimal n) ⌝ }
     ensures { λ r. ⌜ Printed (ascii "#WAIT BYTE " ++ decimal n) (now (out .entry)) at r (now (out .exit)) ⌝ }
@@ -48,6 +51,7 @@ fn wait_byte(out: &mut [u8], at: usize, n: u16) -> usize
     number(out, next, number_of(n))
 }
 
+// `#WAIT CLOCK` and the clock value.
 fn wait_clock(out: &mut [u8], at: usize, c: Clock) -> usize
     requires { ⌜ Within at (ascii "#WAIT CLOCK " ++ clockText (fixedUnits c)) ⌝ }
     ensures { λ r. ⌜ Printed (ascii "#WAIT CLOCK " ++ clockText (fixedUnits c)) (now (out .entry)) at r (now (out .exit)) ⌝ }
@@ -56,6 +60,7 @@ fn wait_clock(out: &mut [u8], at: usize, c: Clock) -> usize
     clock_text(out, next, c)
 }
 
+// `#WAIT`, a signal and its level.
 fn wait_signal(out: &mut [u8], at: usize, l: Level) -> usize
     requires { ⌜ (l .signal ≤ 4) × Within at (ascii "#WAIT " ++ (signalText (l .signal) ++ onText (l .on))) ⌝ }
     ensures { λ r. ⌜ Printed (ascii "#WAIT " ++ (signalText (l .signal) ++ onText (l .on))) (now (out .entry)) at r (now (out .exit)) ⌝ }
@@ -65,6 +70,7 @@ fn wait_signal(out: &mut [u8], at: usize, l: Level) -> usize
     on_text(out, next, l.on)
 }
 
+// `#RTS` and its level.
 fn rts(out: &mut [u8], at: usize, on: bool) -> usize
     requires { ⌜ Within at (ascii "#RTS " ++ onText on) ⌝ }
     ensures { λ r. ⌜ Printed (ascii "#RTS " ++ onText on) (now (out .entry)) at r (now (out .exit)) ⌝ }
