@@ -20,11 +20,11 @@ use process::events::tick;
 use process::receiving::receive;
 use reader::Number;
 use reader::numbers::number;
-use words::is_named;
 use runner::Counts;
 use runner::Outcome;
 use runner::draining::drain;
 use runner::starting::start;
+use words::is_named;
 
 fn wide(n: u32) -> u64 {
     n as u64

@@ -28,6 +28,13 @@ fn say_refusal(fault: Fault, line: u32) {
     say(b"\n");
 }
 
+// The first n of some bytes.
+fn say_first(bytes: &[u8], n: usize) {
+    if n <= bytes.len() {
+        say(&bytes[..n]);
+    }
+}
+
 // A buffer of LISTING bytes has room for every listing.
 fn say_listing(table: Table) {
     let cells = table.cells;
@@ -35,11 +42,7 @@ fn say_listing(table: Table) {
     let mut out = [0u8; LISTING];
     let listed = list(&cells, &pool, table.heads, &mut out);
     match listed {
-        Listed::Wrote(n) => {
-            if n <= LISTING {
-                say(&out[..n]);
-            }
-        }
+        Listed::Wrote(n) => say_first(&out, n),
         Listed::Refused(_) => {}
     }
 }

@@ -18,11 +18,11 @@ use super::lines::time_text;
 use super::lines::wait_data;
 use super::text::number;
 use super::text::put;
+use coder::decode;
 use language::Cell;
 use language::Clock;
 use language::Level;
 use language::Pool;
-use coder::decode;
 
 // `#LOOP` and how often.
 fn loops(out: &mut [u8], at: usize, n: u16) -> usize

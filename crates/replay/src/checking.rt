@@ -1,5 +1,6 @@
 // A script held against its listing, and its run against its outcomes.
 use super::outcomes;
+use super::output::first;
 use super::output::say;
 use super::output::say_number;
 use super::running;
@@ -18,12 +19,7 @@ fn listing_agrees(table: Table, file: i32) -> bool {
     let n = io::read_full(file, &mut held);
     let listed = list(&cells, &pool, table.heads, &mut out);
     match listed {
-        Listed::Wrote(m) => {
-            if m <= LISTING {
-                return is_named(&held, 0, n, &out[..m]);
-            }
-            false
-        }
+        Listed::Wrote(m) => is_named(&held, 0, n, first(&out, m)),
         Listed::Refused(_) => false,
     }
 }
@@ -33,10 +29,7 @@ pub fn open_file(name: &[u8], ending: &[u8]) -> i32 {
     let mut path = io::buffer();
     let a = outcomes::word(&mut path, 0, name);
     let b = outcomes::word(&mut path, a, ending);
-    if b <= 4096 {
-        return os::open_read(&path[..b]);
-    }
-    -1
+    os::open_read(first(&path, b))
 }
 
 pub fn check_table(name: &[u8], table: Table) {

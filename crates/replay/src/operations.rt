@@ -1,4 +1,5 @@
 // An operation, read from a line: `drain SIZE`, `byte HH`, `tick`, `clock YY MM DD hh mm ss`, `level SIGNAL on|off`.
+use super::output::first;
 use process::Reading;
 use reader::Number;
 use reader::hex::hex_byte;
@@ -139,10 +140,6 @@ fn by_name(line: &[u8]) -> Operation {
 }
 
 // Blanks at the end of a line are ignored.
-pub fn operation(line: &[u8]) -> Operation {
-    let end = trimmed_end(line);
-    if end <= line.len() {
-        return by_name(&line[..end]);
-    }
-    Operation::Bad
+pub fn read_operation(line: &[u8]) -> Operation {
+    by_name(first(line, trimmed_end(line)))
 }

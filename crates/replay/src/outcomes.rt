@@ -1,13 +1,13 @@
 // The line that tells an outcome, written into a lent buffer.
-use process::Copies;
+use super::output::first;
 use process::Received;
 use process::Refusal;
 use process::Taken;
+use runner::Outcome;
 use writer::Put;
 use writer::put_bytes;
 use writer::put_decimal;
 use writer::put_hex;
-use runner::Outcome;
 
 fn after(put: Put, at: usize) -> usize {
     match put {
@@ -42,19 +42,11 @@ fn data(text: &mut [u8], name: &[u8], bytes: &[u8]) -> usize {
     after(put, next)
 }
 
-// The first so many of some bytes.
-fn some_data(text: &mut [u8], name: &[u8], bytes: &[u8], count: usize) -> usize {
-    if count <= bytes.len() {
-        return data(text, name, &bytes[..count]);
-    }
-    0
-}
-
 pub fn drained(text: &mut [u8], outcome: Outcome, bytes: &[u8]) -> usize {
     match outcome {
         Outcome::Quiet => word(text, 0, b"quiet"),
-        Outcome::Sent(length) => some_data(text, b"sent", bytes, length.bytes),
-        Outcome::Recorded(length) => some_data(text, b"recorded", bytes, length.bytes),
+        Outcome::Sent(length) => data(text, b"sent", first(bytes, length.bytes)),
+        Outcome::Recorded(length) => data(text, b"recorded", first(bytes, length.bytes)),
         Outcome::Rts(switch) => {
             if switch.on {
                 return word(text, 0, b"rts on");
@@ -82,7 +74,7 @@ fn copies(text: &mut [u8], count: u8, b: u8) -> usize {
         return word(text, 0, b"took");
     }
     if count == 1 {
-        return data(text, b"took", &twice[..1]);
+        return data(text, b"took", first(&twice, 1));
     }
     data(text, b"took", &twice)
 }

@@ -1,6 +1,14 @@
-// What is printed.
+// What is printed, and the first bytes of a buffer.
 use language::Fault;
 use libc::STDOUT_FILENO;
+
+// The first n of some bytes, or all of them if there are not so many.
+pub fn first(bytes: &[u8], n: usize) -> &[u8] {
+    if n <= bytes.len() {
+        return &bytes[..n];
+    }
+    bytes
+}
 
 pub fn say(text: &[u8]) {
     io::write_all(STDOUT_FILENO, text);

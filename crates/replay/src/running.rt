@@ -4,6 +4,7 @@ use super::lines::Line;
 use super::operations;
 use super::operations::Operation;
 use super::outcomes;
+use super::output::first;
 use super::output::say;
 use language::Cells;
 use language::Heads;
@@ -18,10 +19,11 @@ use process::events::read_clock;
 use process::events::set_level;
 use process::events::tick;
 use process::receiving::receive;
-use words::is_named;
 use runner::Counts;
+use runner::Drained;
 use runner::draining::drain;
 use runner::starting::start;
+use words::is_named;
 
 // The state after an operation, and how long the line is that tells its outcome.
 struct Told {
@@ -29,14 +31,28 @@ struct Told {
     length: usize,
 }
 
-fn told(e: Event, text: &mut [u8]) -> Told {
+fn tell_event(e: Event, text: &mut [u8]) -> Told {
     let state = e.state;
     let answer = e.answer;
     let length = outcomes::taken(text, answer);
     Told { state, length }
 }
 
-// A drain with a lent buffer of so many bytes; no statement writes more than 127.
+// A drain with a lent buffer of so many bytes, or of 1,024: no statement writes more than 127.
+fn drain_into<'a>(
+    cells: &'a Cells,
+    pool: &'a Pool,
+    s: State,
+    counts: &mut Counts,
+    bytes: &mut [u8],
+    size: usize,
+) -> Drained {
+    if size <= bytes.len() {
+        return drain(cells, pool, s, counts, &mut bytes[..size]);
+    }
+    drain(cells, pool, s, counts, bytes)
+}
+
 fn do_drain<'a>(
     cells: &'a Cells,
     pool: &'a Pool,
@@ -45,12 +61,12 @@ fn do_drain<'a>(
     size: usize,
     text: &mut [u8],
 ) -> Told {
-    let mut bytes = [0u8; 1024];
-    let n = if size < 1024 { size } else { 1024 };
-    let drained = drain(cells, pool, s, counts, &mut bytes[..n]);
+    let mut space = [0u8; 1024];
+    let bytes: &mut [u8] = &mut space;
+    let drained = drain_into(cells, pool, s, counts, bytes, size);
     let state = drained.state;
     let outcome = drained.outcome;
-    let length = outcomes::drained(text, outcome, &bytes);
+    let length = outcomes::drained(text, outcome, bytes);
     Told { state, length }
 }
 
@@ -71,13 +87,13 @@ fn operate<'a>(
     line: &[u8],
     text: &mut [u8],
 ) -> Told {
-    let asked = operations::operation(line);
+    let asked = operations::read_operation(line);
     match asked {
         Operation::Drain(size) => do_drain(cells, pool, s, counts, size, text),
         Operation::Byte(b) => do_byte(pool, heads, s, b, text),
-        Operation::Tick => told(tick(s), text),
-        Operation::Clock(r) => told(read_clock(s, r), text),
-        Operation::Level(signal, on) => told(set_level(s, signal, on), text),
+        Operation::Tick => tell_event(tick(s), text),
+        Operation::Clock(r) => tell_event(read_clock(s, r), text),
+        Operation::Level(signal, on) => tell_event(set_level(s, signal, on), text),
         Operation::Bad => {
             let length = outcomes::word(text, 0, b"bad operation");
             Told { state: s, length }
@@ -116,7 +132,7 @@ struct Turn {
     agrees: bool,
 }
 
-fn turn<'a>(
+fn take_turn<'a>(
     cells: &'a Cells,
     pool: &'a Pool,
     heads: Heads,
@@ -130,23 +146,13 @@ fn turn<'a>(
     let next = lines::next_line(from, &mut line);
     match next {
         Line::Of(n) => {
-            if n <= 512 {
-                let done = operate(cells, pool, heads, s, counts, &line[..n], &mut text);
-                let state = done.state;
-                let length = done.length;
-                if length <= 512 {
-                    let agrees = tell(&text[..length], expected);
-                    return Turn {
-                        state,
-                        goes_on: true,
-                        agrees,
-                    };
-                }
-            }
+            let done = operate(cells, pool, heads, s, counts, first(&line, n), &mut text);
+            let state = done.state;
+            let agrees = tell(first(&text, done.length), expected);
             Turn {
-                state: s,
-                goes_on: false,
-                agrees: false,
+                state,
+                goes_on: true,
+                agrees,
             }
         }
         Line::TooLong => {
@@ -185,7 +191,7 @@ fn is_through(expected: i32) -> bool {
     }
 }
 
-fn run<'a>(
+fn run_all<'a>(
     cells: &'a Cells,
     pool: &'a Pool,
     heads: Heads,
@@ -198,7 +204,7 @@ fn run<'a>(
     let mut told = 0u64;
     let mut agrees = true;
     while told < u64::MAX {
-        let t = turn(cells, pool, heads, state, counts, from, expected);
+        let t = take_turn(cells, pool, heads, state, counts, from, expected);
         let next = t.state;
         state = next;
         if t.goes_on {
@@ -255,5 +261,5 @@ pub fn started(table: Table, from: i32, expected: i32) -> Run {
     let mut counts = [0u32; 512];
     let e = start(&cells, &pool, heads, idle(), &mut counts);
     let state = e.state;
-    run(&cells, &pool, heads, state, &mut counts, from, expected)
+    run_all(&cells, &pool, heads, state, &mut counts, from, expected)
 }
