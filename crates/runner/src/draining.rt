@@ -12,20 +12,20 @@ use crate::Drained;
 use crate::Length;
 use crate::Outcome;
 use crate::Switch;
+use coder::cell_at;
 use language::Cell;
 use language::Cells;
 use language::PROCESSES;
 use language::Pool;
 use language::Span;
-use coder::cell_at;
 use process::Process;
 use process::Reading;
 use process::Refusal;
 use process::State;
-use writer::Put;
-use writer::put_bytes;
 use record::write_record;
 use statement::moving::step;
+use writer::Put;
+use writer::put_bytes;
 
 fn wide(x: u16) -> usize
     ensures { λ r. ⌜ r ≡ x ⌝ }
