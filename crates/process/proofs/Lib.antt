@@ -3,5 +3,3 @@ pub mod Overlaps
 pub mod Loops
 pub mod EventCases
 pub mod Recorded
-pub mod MoveCases
-pub mod Neighbours

@@ -1,31 +1,18 @@
 // The four events on a process and on the state.
 ghost use mathlib.Core.Path.{_≡_};
-ghost use mathlib.Core.Bool.{true, _&&_};
 ghost use mathlib.Core.List.{map};
-ghost use Prim.Native.Nat.{_+_, _≤_};
-ghost use lib.ListN.{take};
-ghost use lib.Dec.{leb};
-ghost use Rattle.process.specs.Waiting.{ready, withWait, ticked, awaited, byteWait, byteTaken, progressRight, waitRight, rangeRight, readingTaken, levelTaken};
-ghost use Rattle.process.specs.Recording.{oneOf, copies};
-ghost use Rattle.process.specs.Events.{any, every, busy, refused, tickEvent, readingRight, readingEvent, levelEvent, rangesRight, byteEvent};
-use crate::ByteEvent;
-use crate::Copies;
+ghost use Rattle.process.specs.Waiting.{ready, withWait, ticked, readingTaken, levelTaken};
+ghost use Rattle.process.specs.Events.{any, refused, tickEvent, readingRight, readingEvent, levelEvent};
 use crate::Event;
 use crate::Process;
-use crate::Progress;
 use crate::Reading;
-use crate::Received;
 use crate::Refusal;
 use crate::State;
 use crate::Taken;
 use crate::Wait;
-use crate::matching::advanced;
-use crate::waits::awaken;
 use crate::waits::both;
-use language::Heads;
 use language::Level;
 use language::PROCESSES;
-use language::Pool;
 
 impl Process {
     pub fn is_ready(self) -> bool

@@ -1,12 +1,10 @@
-// A process: what it waits for, the four events, and one statement of it. A state by value, a lent table.
+// A process and what it waits for, and the four events. A state by value, a lent pool.
 ghost use mathlib.Core.Path.{_≡_};
 ghost use Rattle.process.specs.Events.{refusalNumber};
 use language::Clock;
 
 pub mod events;
-mod joining;
 mod matching;
-pub mod moving;
 pub mod receiving;
 pub mod waits;
 
@@ -108,22 +106,4 @@ pub enum Received {
 pub struct ByteEvent {
     pub state: State,
     pub answer: Received,
-}
-
-// A process after its statement; or as it was, where a place, loop or data range leaves the table.
-pub struct Moved {
-    pub found: bool,
-    pub process: Process,
-}
-
-// What follows a WAIT DATA line: another with so many bytes, or something else.
-pub enum Follow {
-    Bytes(u16),
-    Other,
-}
-
-// The WAIT DATA lines that follow: how many cells, and how many bytes they have.
-pub struct Joined {
-    pub cells: u16,
-    pub bytes: u32,
 }

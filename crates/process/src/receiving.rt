@@ -1,9 +1,9 @@
 // A received byte: what it does to each wait, and how often it is recorded.
 ghost use mathlib.Core.Path.{_≡_};
-ghost use mathlib.Core.Bool.{Bool, true, _&&_};
+ghost use mathlib.Core.Bool.{true};
 ghost use mathlib.Core.List.{map};
 ghost use Prim.Native.Nat.{_+_, _≤_};
-ghost use lib.ListN.{length, take, drop};
+ghost use lib.ListN.{length, take};
 ghost use Rattle.process.specs.Matching.{advance};
 ghost use Rattle.process.specs.Waiting.{awaited, matchedWait, byteWait, byteTaken, progressRight, waitRight, rangeRight};
 ghost use Rattle.process.specs.Recording.{oneOf, copies};

@@ -1,15 +1,11 @@
 // What each event does to a wait.
 ghost use mathlib.Core.Path.{_≡_};
 ghost use mathlib.Core.Bool.{_&&_};
-ghost use lib.ListN.{length, take, drop};
-ghost use Rattle.process.specs.Matching.{advance};
-ghost use Rattle.process.specs.Waiting.{readyWait, awake, tickedWait, awaited, matchedTo, matchedWait, byteWait, progressRight, waitRight, unitMatches, matches, readingWait, sameLevel, sets, levelWait};
-use crate::Progress;
+ghost use Rattle.process.specs.Waiting.{readyWait, awake, tickedWait, unitMatches, matches, readingWait, sameLevel, sets, levelWait};
 use crate::Reading;
 use crate::Wait;
 use language::Clock;
 use language::Level;
-use language::Pool;
 
 // "one past its last statement is never ready again"
 pub fn awaken(place: u16, end: u16) -> Wait
@@ -24,7 +20,7 @@ pub(crate) fn both(a: bool, b: bool) -> bool
     if a { b } else { false }
 }
 
-pub(crate) fn same_level(a: bool, b: bool) -> bool
+pub fn same_level(a: bool, b: bool) -> bool
     ensures { λ r. ⌜ r ≡ sameLevel a b ⌝ }
 {
     if a {

@@ -34,7 +34,7 @@ use Rattle.runner.specs.declared.Drained.{Drained}
 use Rattle.process.specs.Waiting.{ticked, byteTaken, readingTaken, levelTaken}
 use Rattle.process.specs.Recording.{copies}
 use Rattle.process.specs.Events.{refusalNumber, every, busy, refused, took, withProcesses, tickEvent, readingRight, readingEvent, levelEvent, rangesRight, byteEvent}
-use Rattle.process.specs.Moving.{moved, cellAt}
+use Rattle.statement.specs.Moving.{moved, cellAt}
 use Rattle.runner.specs.Draining.{lowest, nobody, turn, outcomeOf, writes, stateAfter, unaltered, drained}
 use Rattle.runner.specs.Starting.{startAt, started, startState, noCounts, startEvent, startCounts}
 use Rattle.runner.specs.Calls as calls

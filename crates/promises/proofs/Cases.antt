@@ -19,7 +19,7 @@ use Rattle.process.specs.Matching as matching
 use Rattle.process.specs.Waiting as waiting
 use Rattle.process.specs.Recording as recording
 use Rattle.process.specs.Events as events
-use Rattle.process.specs.Moving as moving
+use Rattle.statement.specs.Moving as moving
 use Rattle.record.specs.Logging as logging
 use Rattle.runner.specs.Draining as draining
 use Rattle.runner.specs.Starting as starting

@@ -14,7 +14,7 @@ use Rattle.language.specs.declared.Cell.the-variants as cell
 use Rattle.language.specs.declared.Table.{Table}
 use Rattle.record.specs.Logging.{nextCount}
 use Rattle.process.specs.Events.{any}
-use Rattle.process.specs.Moving.{cellAt}
+use Rattle.statement.specs.Moving.{cellAt}
 use Rattle.runner.specs.Draining.{turn, countedBy, does, countsAfter}
 use Rattle.runner.specs.Calls as calls
 use Rattle.runner.specs.Calls.{Box, Call, start, tick, byte, reading, level, drain}

@@ -21,7 +21,7 @@ use Rattle.process.specs.declared.Event.{Event}
 use Rattle.process.specs.declared.ByteEvent.{ByteEvent}
 use Rattle.runner.specs.declared.Drained.{Drained}
 use Rattle.process.specs.Events.{refusalNumber, busy, refused, took, tickEvent, readingRight, readingEvent, levelEvent, rangesRight, byteEvent}
-use Rattle.process.specs.Moving.{moved, cellAt}
+use Rattle.statement.specs.Moving.{moved, cellAt}
 use Rattle.runner.specs.Draining.{lowest, turn, outcomeOf, does, writes, stateAfter, unaltered, drained, bufferAfter, countsAfter}
 use Rattle.runner.specs.Calls as calls
 use Rattle.runner.specs.Starting.{startEvent, startCounts}

@@ -14,7 +14,7 @@ use Rattle.process.specs.declared.Refusal.the-variants.{SmallBuffer, BadTable}
 use Rattle.runner.specs.declared.Outcome.the-variants.{Quiet, Refused}
 use Rattle.runner.specs.declared.Drained.{Drained}
 use Rattle.process.specs.Events.{busy}
-use Rattle.process.specs.Moving.{moved, cellAt}
+use Rattle.statement.specs.Moving.{moved, cellAt}
 use Rattle.runner.specs.Draining.{lowest, turn, does, writes, unaltered, drained}
 use Rattle.runner.specs.Calls as calls
 use Rattle.runner.specs.Calls.{Box, drain, outcome}

@@ -14,7 +14,7 @@ use Rattle.language.specs.Answer.{answered, compiled}
 use Rattle.language.proofs.Opened.{printed}
 use Rattle.accepted.specs.Accepted.{tableRight}
 use Rattle.process.specs.Waiting.{awake}
-use Rattle.process.specs.Moving.{restsUnless, movedBy, moved}
+use Rattle.statement.specs.Moving.{restsUnless, movedBy, moved}
 use Rattle.runner.specs.Draining.{lowest, outcomeOf, drained, stateAfter}
 use Rattle.runner.specs.Starting.{started, startedFrom, startState, noCounts, startEvent, startCounts}
 use Rattle.runner.specs.Calls as calls

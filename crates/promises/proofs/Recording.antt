@@ -20,7 +20,7 @@ use Rattle.process.specs.declared.ByteEvent.{ByteEvent}
 use Rattle.process.specs.Waiting.{byteTaken}
 use Rattle.process.specs.Recording.{copies}
 use Rattle.process.specs.Events.{busy, withProcesses, answeredWith, tickEvent, readingRight, readingEvent, levelEvent, rangesRight, byteEvent}
-use Rattle.process.specs.Moving.{moved, cellAt}
+use Rattle.statement.specs.Moving.{moved, cellAt}
 use Rattle.runner.specs.declared.Outcome.the-variants.{Quiet, Refused}
 use Rattle.runner.specs.declared.Drained.{Drained}
 use Rattle.runner.specs.Draining.{lowest, turn, pausedBy, outcomeOf, writes, unaltered, stateAfter, drained}

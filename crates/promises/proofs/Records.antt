@@ -15,7 +15,7 @@ use Rattle.process.specs.declared.Wait.the-variants.{Ready, Over, ClockValue, S
 use Rattle.process.specs.declared.Process.{Process}
 use Rattle.process.specs.Waiting.{awake, matches, readingWait, sameLevel, sets, levelWait}
 use Rattle.process.specs.Events.{any}
-use Rattle.process.specs.Moving.{signalled}
+use Rattle.statement.specs.Moving.{signalled}
 use Rattle.promises.specs.Waits.{since}
 use Rattle.promises.specs.Records.{EndsAtFirst, TestedWaits, SignalBegins}
 use Rattle.promises.proofs.WaitLaws.{awake-stays}

@@ -20,7 +20,7 @@ use Rattle.language.specs.Limits.{loopLimit}
 use Rattle.process.specs.declared.Wait.{Wait}
 use Rattle.process.specs.declared.Process.{Process}
 use Rattle.process.specs.Waiting.{readyWait, ready, waitRight}
-use Rattle.process.specs.Moving.{passes, rests, opened, pass, closed}
+use Rattle.statement.specs.Moving.{passes, rests, opened, pass, closed}
 use Rattle.promises.proofs.Ahead.{Open, opensOf, more, whole, onward, ahead, run-less}
 use Rattle.promises.proofs.Stands.{Back, Kept, Sits, resting, Held, Good}
 use Rattle.promises.proofs.Opens.{opens-length, opens-more, opens-less}

@@ -21,7 +21,7 @@ use Rattle.process.specs.declared.Copies.{Copies}
 use Rattle.process.specs.Matching.{last, progress}
 use Rattle.process.specs.Waiting.{awake, tickedWait, awaited, matchedTo, byteWait, byteTaken}
 use Rattle.process.specs.Events.{busy, rangesRight, byteEvent}
-use Rattle.process.specs.Moving.{moved}
+use Rattle.statement.specs.Moving.{moved}
 use Rattle.runner.specs.Draining.{lowest, nobody, turn, does}
 use Rattle.runner.specs.Calls as calls
 use Rattle.runner.specs.Calls.{Box, Call, start, tick, byte, reading, level, drain, Reply, event, outcome, Called}

@@ -14,9 +14,9 @@ use Rattle.language.specs.Limits.{linesLimit, processLimit}
 use Rattle.language.specs.Cell.{decoded}
 use Rattle.process.specs.declared.Process.{Process}
 use Rattle.process.specs.declared.State.{State}
-use Rattle.process.specs.declared.Moved.{Moved}
+use Rattle.statement.specs.declared.Moved.{Moved}
 use Rattle.process.specs.declared.Refusal.the-variants.{SmallBuffer, BadTable}
-use Rattle.process.specs.Moving.{moved, movedBy, cellAt, astray}
+use Rattle.statement.specs.Moving.{moved, movedBy, cellAt, astray}
 use Rattle.runner.specs.declared.Outcome.{Outcome}
 use Rattle.runner.specs.declared.Outcome.the-variants.{Quiet, Refused}
 use Rattle.runner.specs.declared.Drained.{Drained}

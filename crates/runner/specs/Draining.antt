@@ -20,9 +20,9 @@ use Rattle.process.specs.declared.Refusal.the-variants.{SmallBuffer, BadTable}
 use Rattle.runner.specs.declared.Outcome.{Outcome}
 use Rattle.runner.specs.declared.Outcome.the-variants.{Quiet, Sent, Recorded, Rts, Fchange, Pause, Resume, Plain, Refused}
 use Rattle.runner.specs.declared.Drained.{Drained}
-use Rattle.process.specs.declared.Moved.{Moved}
+use Rattle.statement.specs.declared.Moved.{Moved}
 use Rattle.process.specs.Waiting.{ready}
-use Rattle.process.specs.Moving.{moved, cellAt}
+use Rattle.statement.specs.Moving.{moved, cellAt}
 use Rattle.record.specs.Logging.{recordOf, nextCount}
 
 -- the number, from 0, of the first process that is ready; their number where none is

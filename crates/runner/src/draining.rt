@@ -23,6 +23,7 @@ use process::Reading;
 use process::Refusal;
 use process::State;
 use record::write_record;
+use statement::moving::step;
 use writer::Put;
 use writer::put_bytes;
 
@@ -252,7 +253,7 @@ pub fn drain<'a>(
     }
     let p = process_of(ps, i);
     let levels = s.levels;
-    let m = p.step(cells, levels);
+    let m = step(p, cells, levels);
     if m.found {
         if out.len() < 128 {
             return refuse(s, Refusal::SmallBuffer);

@@ -1,0 +1,2 @@
+pub mod MoveCases
+pub mod Neighbours

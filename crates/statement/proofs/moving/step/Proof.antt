@@ -1,0 +1,53 @@
+-- `statement::moving::step` meets its contract. Assumes nothing.
+use mathlib.Core.Path.{sym, ap, _∙_}
+use Prim.Native.Nat.{ℕ}
+use denote.Ref.{now}
+use lib.ListN.{getD}
+use Rattle.language.specs.Cell.{decoded}
+use Rattle.statement.specs.Moving.{movedBy}
+use Rattle.statement.proofs.MoveCases.{step-inside, step-over, step-out}
+use borrow.Author.Needs.{needs}
+use Rattle.statement.proofs.moving.step.Statement.{statement}
+use Rattle.statement.proofs.moving.step.Tie as tie
+
+wide-requires : tie.Need-wide-requires
+wide-requires c κs = search needs
+
+cell-at-requires : tie.Need-cell-at-requires
+cell-at-requires c κs = search needs
+
+moves-by-requires : tie.Need-moves-by-requires
+moves-by-requires c κs = search needs
+
+returns : tie.Need-returns
+returns c = let a = c .before .before .before .before .before .before .args in
+    c .moves-by .ensures
+    ∙ ap (movedBy (now (a .cells)) (a .levels) (a .p)) (c .before .cell-at .ensures ∙ ap (λ (i : ℕ). decoded (getD (now (a .cells)) i 0)) (c .before .before .wide .ensures))
+    ∙ step-inside (a .p) (now (a .cells)) (a .levels) (c .before .before .before .before .before .if1 .taken) (c .before .before .before .if2 .taken)
+
+strays-requires : tie.Need-strays-requires
+strays-requires c κs = search needs
+
+returns-2 : tie.Need-returns-2
+returns-2 c = let a = c .before .before .before .before .args in
+    c .strays .ensures ∙ step-over (a .p) (now (a .cells)) (a .levels) (c .before .before .before .if1 .taken) (c .before .if2 .left)
+
+strays-requires-2 : tie.Need-strays-requires-2
+strays-requires-2 c κs = search needs
+
+returns-3 : tie.Need-returns-3
+returns-3 c = let a = c .before .before .args in
+    c .strays2 .ensures ∙ step-out (a .p) (now (a .cells)) (a .levels) (c .before .if1 .left)
+
+pub step-spec : {M : Type 1} → statement M
+step-spec =
+    tie.close
+    (tie.spec
+    wide-requires
+    cell-at-requires
+    moves-by-requires
+    returns
+    strays-requires
+    returns-2
+    strays-requires-2
+    returns-3)
