@@ -10,12 +10,9 @@ use language::Heads;
 use language::Pool;
 use language::Table;
 use libc::STDOUT_FILENO;
-use process::Process;
-use process::Reading;
 use process::Received;
 use process::State;
 use process::Taken;
-use process::Wait;
 use process::events::tick;
 use process::receiving::receive;
 use reader::Number;
@@ -23,39 +20,12 @@ use reader::numbers::number;
 use runner::Counts;
 use runner::Outcome;
 use runner::draining::drain;
+use runner::starting::idle;
 use runner::starting::start;
 use words::is_named;
 
 fn wide(n: u32) -> u64 {
     n as u64
-}
-
-// A process that is over, and a state of such: what a start is given, which it does not look at.
-fn over() -> Process {
-    Process {
-        place: 0,
-        end: 0,
-        depth: 0,
-        left: [0; 8],
-        back: [0; 8],
-        wait: Wait::Over,
-    }
-}
-
-fn idle() -> State {
-    State {
-        processes: [over(); 8],
-        reading: Reading {
-            year: 0,
-            month: 1,
-            day: 1,
-            hour: 0,
-            minute: 0,
-            second: 0,
-        },
-        levels: [false; 5],
-        paused: false,
-    }
 }
 
 fn stretch(text: &[u8]) -> u64 {

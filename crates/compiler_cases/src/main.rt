@@ -1,7 +1,6 @@
 // Texts on both sides of each bound, each refusal, and every statement in every spelling: one line for each, with what came back.
 use compiler::compile;
 use language::Answer;
-use language::Fault;
 use language::Heads;
 use language::Table;
 use libc::STDOUT_FILENO;
@@ -12,24 +11,6 @@ fn say(text: &[u8]) {
 
 fn say_number(n: u64) {
     io::print_decimal(STDOUT_FILENO, n);
-}
-
-// "Numbers the bench reads back".
-fn number(fault: Fault) -> u64 {
-    match fault {
-        Fault::TextTooLong => 12,
-        Fault::LineTooLong => 1,
-        Fault::TooManyLines => 2,
-        Fault::NoSuchName => 3,
-        Fault::BadRest => 4,
-        Fault::TooMuchData => 5,
-        Fault::TooManyOmits => 10,
-        Fault::TooManyLoops => 6,
-        Fault::EndWithoutLoop => 7,
-        Fault::LoopLeftOpen => 8,
-        Fault::TooManyProcesses => 9,
-        Fault::StretchTooLong => 11,
-    }
 }
 
 fn say_word(name: &[u8], n: u32) {
@@ -89,8 +70,7 @@ fn case(name: &[u8], text: &[u8]) {
             say_table(compiled.table);
         }
         Answer::Refused(fault, line) => {
-            say(b": refused ");
-            say_number(number(fault));
+            say_byte(b": refused ", fault.number());
             say_word(b" at ", line);
             say(b"\n");
         }

@@ -20,6 +20,7 @@ use Rattle.promises.specs.Demand2.{Faithful}
 use Rattle.promises.specs.Waits.{CountedWaits, DataWait, CountsAlways, isEvent, TakenWhenQuiet, OneStatement}
 use Rattle.promises.specs.Records.{TestedWaits, SignalBegins, RecordedRight, CountsOwn}
 
+-- each meaning that a user relies on
 pub record Agrees : Type 0 where
   -- "A listing printed from a table compiles to that same table", with the stretch of the written-out form
   pub listing : {text : List ℕ} {t : Table} {k : ℕ} → Compiles text t k → Faithful t k

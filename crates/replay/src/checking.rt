@@ -25,14 +25,14 @@ fn listing_agrees(table: Table, file: i32) -> bool {
 }
 
 // NAME and what its file's name ends in.
-pub fn open_file(name: &[u8], ending: &[u8]) -> i32 {
+pub(crate) fn open_file(name: &[u8], ending: &[u8]) -> i32 {
     let mut path = io::buffer();
     let a = outcomes::word(&mut path, 0, name);
     let b = outcomes::word(&mut path, a, ending);
     os::open_read(first(&path, b))
 }
 
-pub fn check_table(name: &[u8], table: Table) {
+pub(crate) fn check_table(name: &[u8], table: Table) {
     if listing_agrees(table, open_file(name, b".listing")) {
         say(b"listing agrees, ");
     } else {

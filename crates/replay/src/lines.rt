@@ -37,7 +37,7 @@ fn ended(line: &[u8], n: usize, is_long: bool) -> Line {
 }
 
 // A proved loop has to end, and nothing says that the input does: the count of turns falls from a number that no run uses up.
-pub fn next_line(fd: i32, line: &mut [u8]) -> Line {
+pub(crate) fn next_line(fd: i32, line: &mut [u8]) -> Line {
     let mut n = 0usize;
     let mut is_long = false;
     let mut turns = u64::MAX;

@@ -140,6 +140,6 @@ fn by_name(line: &[u8]) -> Operation {
 }
 
 // Blanks at the end of a line are ignored.
-pub fn read_operation(line: &[u8]) -> Operation {
+pub(crate) fn read_operation(line: &[u8]) -> Operation {
     by_name(first(line, trimmed_end(line)))
 }

@@ -16,7 +16,7 @@ fn after(put: Put, at: usize) -> usize {
     }
 }
 
-pub fn word(text: &mut [u8], at: usize, name: &[u8]) -> usize {
+pub(crate) fn word(text: &mut [u8], at: usize, name: &[u8]) -> usize {
     let put = put_bytes(text, at, name);
     after(put, at)
 }
@@ -42,7 +42,7 @@ fn data(text: &mut [u8], name: &[u8], bytes: &[u8]) -> usize {
     after(put, next)
 }
 
-pub fn drained(text: &mut [u8], outcome: Outcome, bytes: &[u8]) -> usize {
+pub(crate) fn drained(text: &mut [u8], outcome: Outcome, bytes: &[u8]) -> usize {
     match outcome {
         Outcome::Quiet => word(text, 0, b"quiet"),
         Outcome::Sent(length) => data(text, b"sent", first(bytes, length.bytes)),
@@ -61,7 +61,7 @@ pub fn drained(text: &mut [u8], outcome: Outcome, bytes: &[u8]) -> usize {
     }
 }
 
-pub fn taken(text: &mut [u8], answer: Taken) -> usize {
+pub(crate) fn taken(text: &mut [u8], answer: Taken) -> usize {
     match answer {
         Taken::Took => word(text, 0, b"took"),
         Taken::Refused(why) => refusal(text, why),
@@ -79,7 +79,7 @@ fn copies(text: &mut [u8], count: u8, b: u8) -> usize {
     data(text, b"took", &twice)
 }
 
-pub fn received(text: &mut [u8], answer: Received, b: u8) -> usize {
+pub(crate) fn received(text: &mut [u8], answer: Received, b: u8) -> usize {
     match answer {
         Received::Took(c) => copies(text, c.count, b),
         Received::Refused(why) => refusal(text, why),

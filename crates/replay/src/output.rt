@@ -3,18 +3,18 @@ use language::Fault;
 use libc::STDOUT_FILENO;
 
 // The first n of some bytes, or all of them if there are not so many.
-pub fn first(bytes: &[u8], n: usize) -> &[u8] {
+pub(crate) fn first(bytes: &[u8], n: usize) -> &[u8] {
     if n <= bytes.len() {
         return &bytes[..n];
     }
     bytes
 }
 
-pub fn say(text: &[u8]) {
+pub(crate) fn say(text: &[u8]) {
     io::write_all(STDOUT_FILENO, text);
 }
 
-pub fn say_number(n: u64) {
+pub(crate) fn say_number(n: u64) {
     io::print_decimal(STDOUT_FILENO, n);
 }
 
@@ -26,7 +26,7 @@ fn say_word(n: u32) {
     say_number(n as u64);
 }
 
-pub fn say_refusal(fault: Fault, line: u32) {
+pub(crate) fn say_refusal(fault: Fault, line: u32) {
     say(b"refused ");
     say_byte(fault.number());
     say(b" at ");

@@ -11,10 +11,7 @@ use language::Heads;
 use language::Pool;
 use language::Table;
 use process::Event;
-use process::Process;
-use process::Reading;
 use process::State;
-use process::Wait;
 use process::events::read_clock;
 use process::events::set_level;
 use process::events::tick;
@@ -22,6 +19,7 @@ use process::receiving::receive;
 use runner::Counts;
 use runner::Drained;
 use runner::draining::drain;
+use runner::starting::idle;
 use runner::starting::start;
 use words::is_named;
 
@@ -225,36 +223,8 @@ fn run_all<'a>(
     }
 }
 
-// A process that is over, and a state of such: what a start is given, which it does not look at.
-fn over() -> Process {
-    Process {
-        place: 0,
-        end: 0,
-        depth: 0,
-        left: [0; 8],
-        back: [0; 8],
-        wait: Wait::Over,
-    }
-}
-
-fn idle() -> State {
-    State {
-        processes: [over(); 8],
-        reading: Reading {
-            year: 0,
-            month: 1,
-            day: 1,
-            hour: 0,
-            minute: 0,
-            second: 0,
-        },
-        levels: [false; 5],
-        paused: false,
-    }
-}
-
 // Starts the script of a table and takes the operations of a file; an `expected` under 0 has the outcomes printed.
-pub fn started(table: Table, from: i32, expected: i32) -> Run {
+pub(crate) fn started(table: Table, from: i32, expected: i32) -> Run {
     let cells = table.cells;
     let pool = table.pool;
     let heads = table.heads;

@@ -1,6 +1,7 @@
 // The start: every process with statements is ready, the levels are off, the counts are 0.
 ghost use mathlib.Core.Path.{_≡_};
 ghost use Prim.Native.Nat.{_<_};
+ghost use Rattle.language.specs.Table.{zeros};
 ghost use Rattle.accepted.specs.Accepted.{tableRight};
 ghost use Rattle.runner.specs.Starting.{startAt, started, startedFrom, startState, noReading, noCounts, startEvent, startCounts};
 use crate::Counts;
@@ -9,6 +10,7 @@ use language::Cells;
 use language::Heads;
 use language::LINES;
 use language::LOOPS;
+use language::OMITS;
 use language::PROCESSES;
 use language::Pool;
 use process::Event;
@@ -93,6 +95,23 @@ fn start_state(heads: Heads) -> State
         levels: [false; 5],
         paused: false,
     }
+}
+
+/// The state of a box before any start: no process has a statement.
+pub fn idle() -> State
+    ensures { λ r. ⌜ r ≡ startState (zeros .heads) ⌝ }
+{
+    start_state(Heads {
+        processes: 0,
+        ends: [0; PROCESSES],
+        used: 0,
+        encodes: false,
+        encode: 0,
+        two_stop_bits: false,
+        omits: 0,
+        omit: [0; OMITS],
+        extension: [0; 3],
+    })
 }
 
 // The counts of all LOG statements, "from 0".
