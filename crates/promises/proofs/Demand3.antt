@@ -1,11 +1,13 @@
 -- DEMAND 3: whatever calls follow a start, the processes of an accepted script's table stay within their bounds. Assumes nothing.
-use mathlib.Core.Path.{_≡_, refl}
+use mathlib.Core.Path.{_≡_, refl, subst}
 use mathlib.Core.Bool.{true}
 use mathlib.Core.List.{List, [], _∷_}
 use Prim.Native.Nat.{ℕ}
 use native.Mathlib.Omega.{arith}
-use lib.ListN.{getD}
+use lib.ListN.{getD, drop}
 use borrow.Author.Tests.{le-ltb}
+use Rattle.figures.specs.Flat.{nests, beyond}
+use Rattle.figures.specs.Scan.{readAt}
 use Rattle.language.specs.declared.Table.{Table}
 use Rattle.stretch.specs.Scan.{marksTo}
 use Rattle.stretch.proofs.Marking.{marks-length}
@@ -20,7 +22,7 @@ use Rattle.runner.specs.Calls.{Box, Call, startCall}
 use Rattle.promises.specs.Replies.{Compiles}
 use Rattle.promises.specs.Demand3.{tally, Run, next, after, fresh, firstOf, endOf, Safe, Bounded}
 use Rattle.promises.proofs.Stands.{resting, Held}
-use Rattle.promises.proofs.Opens.{opens-length}
+use Rattle.promises.proofs.Opens.{opens-length, bodies-nest}
 use Rattle.promises.proofs.Accepting.{Fitting, fitting}
 use Rattle.promises.proofs.Calling.{All, start-all, call-keeps}
 use Rattle.promises.proofs.Quietly.{quiet-exactly}
@@ -36,13 +38,18 @@ only-over (ClockValue c) r s = absurd (s refl)
 only-over (Signal l) r s = absurd (s refl)
 
 module _ (t : Table) (k : ℕ) (a : Fitting t k) where
-  safe-at : (i n : ℕ) (p : Process) → Held (marksTo (t .cells) (endOf (t .heads) i)) (firstOf (t .heads) i) k n p → Safe (t .heads) k i n p
+  safe-at : (i n : ℕ) (p : Process) → Held (marksTo (t .cells) (endOf (t .heads) i)) (firstOf (t .heads) i) k n p → Safe t k i n p
   safe-at i n p h =
       let long = marks-length (t .cells) (endOf (t .heads) i) (a .sound i .own .inside) in
       record {
         low = h .fine .sits .low;
         high = omega (arith, h .fine .sits .high);
         few = omega (arith, opens-length (p .depth) (p .left) (p .back), h .fine .sits .few);
+        enclosed =
+            subst (λ (d : ℕ). nests d (drop (p .place) (marksTo (t .cells) (endOf (t .heads) i))) ≡ true) (opens-length (p .depth) (p .left) (p .back))
+            (h .fine .sits .nested);
+        bodies = bodies-nest (marksTo (t .cells) (endOf (t .heads) i)) (firstOf (t .heads) i) (p .depth) (p .left) (p .back)
+            (beyond (readAt (marksTo (t .cells) (endOf (t .heads) i)) (p .place))) (h .fine .sits .kept);
         brief = omega (arith, h .fine .brief, a .bounded);
         exact = omega (arith, h .fine .brief);
         absent = λ l.

@@ -1,13 +1,19 @@
 -- The open loops that the arrays of a process stand for, after each store. Assumes nothing.
-use mathlib.Core.Path.{_≡_, refl, ap}
+use mathlib.Core.Path.{_≡_, refl, ap, subst}
+use mathlib.Core.Bool.{Bool, true, false}
 use mathlib.Core.List.{List, _∷_}
 use Prim.Native.Nat.{ℕ, zero, suc, _+_, _≤_, _<_}
 use native.Mathlib.Nat.{le-refl}
 use native.Mathlib.Numerals.{add-one}
 use native.Mathlib.Omega.{arith}
-use lib.ListN.{getD, set, length}
+use lib.ListN.{getD, set, length, drop}
+use lib.Dec.{eqb}
+use borrow.Author.Tests.{eqb-true, eqb-false}
+use Rattle.figures.specs.Fragment.{Fragment}
+use Rattle.figures.specs.Flat.{Mark, beyond, nests}
 use lib.Seq.{getD-set-same, getD-set-other}
 use Rattle.promises.proofs.Ahead.{opensOf}
+use Rattle.promises.proofs.Stands.{Kept}
 
 -- a store at or behind the depth changes no open loop
 past-left : (d e v : ℕ) (ls bs : List ℕ) → d ≤ e → opensOf d (set ls e v) bs ≡ opensOf d ls bs
@@ -36,3 +42,17 @@ opens-more d l b ls bs h g =
 pub opens-less : (d l : ℕ) (ls bs : List ℕ) → d < length ls → opensOf (suc d) (set ls d l) bs ≡ record { back = getD bs d 0; left = l } ∷ opensOf d ls bs
 unfolding opensOf
 opens-less d l ls bs g = rw (getD-set-same ls d l 0, past-left d d l ls bs (le-refl d))
+
+-- where the body of the j-th open loop begins, the marks close j + 1 loops
+pub bodies-nest : (ms : List Mark) (first d : ℕ) (ls bs : List ℕ) (fs : List Fragment) → Kept ms first fs (opensOf d ls bs) → (j : ℕ) → j < d
+    → nests (suc j) (drop (getD bs j 0) ms) ≡ true
+unfolding opensOf
+bodies-nest ms first zero ls bs fs k j l = absurd (omega arith)
+bodies-nest ms first (suc d) ls bs fs k j l =
+    by-choice (eqb j d)
+    (λ e. rw (eqb-true j d e) (subst (λ (n : ℕ). nests (suc n) (drop (getD bs d 0) ms) ≡ true) (opens-length d ls bs) (k .0 .nested)))
+    (λ e. bodies-nest ms first d ls bs (beyond fs) (k .1) j (omega (arith, eqb-false j d e)))
+  where
+    by-choice : {A : Type 0} (b : Bool) → (b ≡ true → A) → (b ≡ false → A) → A
+    by-choice true f g = f refl
+    by-choice false f g = g refl

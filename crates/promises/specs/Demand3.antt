@@ -2,16 +2,18 @@
 -- refused ones among them, no process leaves its own statements, holds more than 8 open loops or is answered 25; and between a start,
 -- or an accepted event, and the next start or quiet moment no process does more than 4,097 statements." Assumes nothing: these are definitions.
 use mathlib.Core.Path.{_≡_}
-use mathlib.Core.Bool.{false, cond}
+use mathlib.Core.Bool.{true, false, cond}
 use mathlib.Core.List.{List, [], _∷_}
 use Prim.Native.Nat.{ℕ, suc, _+_, _≤_, _<_}
-use lib.ListN.{length, getD}
+use lib.ListN.{length, getD, drop}
 use lib.Dec.{eqb, ltb}
+use Rattle.figures.specs.Flat.{Mark, nests}
 use Rattle.figures.specs.Stretch.{over}
 use Rattle.language.specs.declared.Heads.{Heads}
 use Rattle.language.specs.declared.Table.{Table}
 use Rattle.language.specs.Limits.{loopLimit, processLimit}
 use Rattle.stretch.specs.Marks.{begins, stops}
+use Rattle.stretch.specs.Scan.{marksTo}
 use Rattle.process.specs.declared.Wait.the-variants.{Over}
 use Rattle.process.specs.declared.Process.{Process}
 use Rattle.process.specs.declared.State.{State}
@@ -74,14 +76,21 @@ firstOf h i = cond (ltb i (h .processes)) (begins h i) 0
 abbrev pub endOf : Heads → ℕ → ℕ
 endOf h i = cond (ltb i (h .processes)) (stops h i) 0
 
--- process i, the stretch of the script being k and n the count of its statements
-pub record Safe (h : Heads) (k i n : ℕ) (p : Process) : Type 0 where
-  pub low : firstOf h i ≤ p .place
-  pub high : p .place ≤ endOf h i
+-- the marks of the cells up to the end of process i: a LOOP opens, an END closes
+abbrev pub marksOf : Table → ℕ → List Mark
+marksOf t i = marksTo (t .cells) (endOf (t .heads) i)
+
+-- process i, the stretch of the script being k and n the count of its statements; its open loops are exactly those that enclose its place: from there
+-- on its statements close them all and no other, and where the body of the j-th of them begins they close j + 1
+pub record Safe (t : Table) (k i n : ℕ) (p : Process) : Type 0 where
+  pub low : firstOf (t .heads) i ≤ p .place
+  pub high : p .place ≤ endOf (t .heads) i
   pub few : p .depth ≤ loopLimit
+  pub enclosed : nests (p .depth) (drop (p .place) (marksOf t i)) ≡ true
+  pub bodies : (j : ℕ) → j < p .depth → nests (suc j) (drop (getD (p .back) j 0) (marksOf t i)) ≡ true
   pub brief : n ≤ over
   pub exact : n ≤ k + 1
-  pub absent : h .processes ≤ i → p .wait ≡ Over
+  pub absent : t .heads .processes ≤ i → p .wait ≡ Over
 
 -- "quiet exactly when none is ready"; "a quiet drain with a small buffer is 24"
 pub record QuietExactly (t : Table) (b : Box) (room : ℕ) : Type 0 where
@@ -91,6 +100,6 @@ pub record QuietExactly (t : Table) (b : Box) (room : ℕ) : Type 0 where
 -- there are eight processes, each safe; whichever call comes next, it is not answered 25; a drain is quiet when it should be
 pub record Bounded (t : Table) (k : ℕ) (r : Run) : Type 0 where
   pub eight : length (r .box .state .processes) ≡ processLimit
-  pub safe : (i : ℕ) → i < processLimit → Safe (t .heads) k i (r .done i) (getD (r .box .state .processes) i nobody)
+  pub safe : (i : ℕ) → i < processLimit → Safe t k i (r .done i) (getD (r .box .state .processes) i nobody)
   pub found : (q : Call) → replyNumber (called t q (r .box) .reply) ≡ 25 → ⊥
   pub quiet : (room : ℕ) → QuietExactly t (r .box) room
