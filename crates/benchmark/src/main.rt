@@ -14,14 +14,14 @@ use process::Received;
 use process::State;
 use process::Taken;
 use process::events::tick;
-use process::receiving::receive;
 use reader::Number;
 use reader::numbers::number;
-use runner::Counts;
+use receiving::receive;
 use runner::Outcome;
 use runner::draining::drain;
-use runner::starting::idle;
-use runner::starting::start;
+use starting::Counts;
+use starting::idle;
+use starting::start;
 use words::is_named;
 
 fn wide(n: u32) -> u64 {

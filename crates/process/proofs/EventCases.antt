@@ -2,19 +2,15 @@
 use Prim.Native.Nat.{ℕ, _≤_, _<_}
 use mathlib.Core.Path.{_≡_}
 use mathlib.Core.Bool.{Bool, true, false}
-use mathlib.Core.List.{List, map}
-use borrow.Author.Tests.{lt-ltb, le-ltb, le-leb, lt-leb}
+use mathlib.Core.List.{map}
+use borrow.Author.Tests.{lt-ltb, le-ltb}
 use lib.ListN.{set}
-use Rattle.language.specs.declared.Heads.{Heads}
-use Rattle.language.specs.Limits.{omitLimit}
 use Rattle.language.specs.Cell.{level}
 use Rattle.process.specs.declared.Reading.{Reading}
 use Rattle.process.specs.declared.State.{State}
-use Rattle.process.specs.declared.Refusal.the-variants.{Busy, BadReading, NoSuchSignal, BadTable}
-use Rattle.process.specs.declared.Received.the-variants.{Took, Refused}
-use Rattle.process.specs.Waiting.{ready, ticked, byteTaken, rangeRight, readingTaken, levelTaken}
-use Rattle.process.specs.Recording.{copies}
-use Rattle.process.specs.Events.{any, every, answeredWith, busy, refused, took, withProcesses, tickEvent, readingRight, readingEvent, levelEvent, rangesRight, byteEvent}
+use Rattle.process.specs.declared.Refusal.the-variants.{Busy, BadReading, NoSuchSignal}
+use Rattle.process.specs.Waiting.{ready, ticked, readingTaken, levelTaken}
+use Rattle.process.specs.Events.{any, busy, refused, took, withProcesses, tickEvent, readingRight, readingEvent, levelEvent}
 
 module _ (s : State) (h : any ready (s .processes) ≡ true) where
   pub tick-busy : tickEvent s ≡ refused s Busy
@@ -51,23 +47,3 @@ module _ (s : State) (h : any ready (s .processes) ≡ false) where
   pub level-none : (n : ℕ) (on : Bool) → 5 ≤ n → levelEvent s n on ≡ refused s NoSuchSignal
   unfolding levelEvent busy
   level-none n on l = rw (h, le-ltb n 5 l)
-
-module _ (pool : List ℕ) (h : Heads) (s : State) (b : ℕ) where
-  pub byte-omits : omitLimit < h .omits → answeredWith s (Refused BadTable) ≡ byteEvent pool h s b
-  unfolding byteEvent rangesRight
-  byte-omits l = rw (lt-leb (h .omits) omitLimit l)
-
-  module _ (l : h .omits ≤ omitLimit) where
-    pub byte-astray : every rangeRight (s .processes) ≡ false → answeredWith s (Refused BadTable) ≡ byteEvent pool h s b
-    unfolding byteEvent rangesRight
-    byte-astray e = rw (le-leb (h .omits) omitLimit l, e)
-
-    module _ (e : every rangeRight (s .processes) ≡ true) where
-      pub byte-busy : any ready (s .processes) ≡ true → answeredWith s (Refused Busy) ≡ byteEvent pool h s b
-      unfolding byteEvent rangesRight busy
-      byte-busy r = rw (le-leb (h .omits) omitLimit l, e, r)
-
-      pub byte-takes : any ready (s .processes) ≡ false
-          → answeredWith (withProcesses s (map (byteTaken pool b) (s .processes))) (Took (record { count = copies h (s .paused) b })) ≡ byteEvent pool h s b
-      unfolding byteEvent rangesRight busy
-      byte-takes r = rw (le-leb (h .omits) omitLimit l, e, r)

@@ -1,12 +1,10 @@
--- The four events on the state. "An event is taken only when no process is ready." "In the runner 25, then 24, then 21, 22, 23."
+-- The tick, the reading and the level on the state. "An event is taken only when no process is ready." "In the runner 25, then 24, then 21, 22, 23."
 use Prim.Native.Nat.{ℕ}
 use mathlib.Core.Bool.{Bool, true, false, cond, _&&_, _||_}
 use mathlib.Core.List.{List, [], _∷_, map}
 use lib.ListN.{set}
 use lib.Dec.{ltb, leb}
-use Rattle.language.specs.declared.Heads.{Heads}
 use Rattle.language.specs.declared.Level.{Level}
-use Rattle.language.specs.Limits.{omitLimit}
 use Rattle.language.specs.Cell.{level}
 use Rattle.process.specs.declared.Reading.{Reading}
 use Rattle.process.specs.declared.Process.{Process}
@@ -15,11 +13,7 @@ use Rattle.process.specs.declared.Refusal.{Refusal}
 use Rattle.process.specs.declared.Refusal.the-variants.{Busy, BadReading, NoSuchSignal, SmallBuffer, BadTable}
 use Rattle.process.specs.declared.Taken.the-variants as taken
 use Rattle.process.specs.declared.Event.{Event}
-use Rattle.process.specs.declared.Received.{Received}
-use Rattle.process.specs.declared.Received.the-variants as received
-use Rattle.process.specs.declared.ByteEvent.{ByteEvent}
-use Rattle.process.specs.Waiting.{ready, ticked, byteTaken, rangeRight, readingTaken, levelTaken}
-use Rattle.process.specs.Recording.{copies}
+use Rattle.process.specs.Waiting.{ready, ticked, readingTaken, levelTaken}
 
 -- "Numbers the bench reads back", the rows of the runner
 unfoldable pub refusalNumber : Refusal → ℕ
@@ -80,20 +74,3 @@ levelEvent s n on =
     (cond (ltb n 5)
     (took (record { processes = map (levelTaken (level n on)) (s .processes); reading = s .reading; levels = set (s .levels) n on; paused = s .paused }))
     (refused s NoSuchSignal))
-
--- what the byte event must use lies within the table: the data of each wait, and the OMIT bytes
-unfoldable pub rangesRight : Heads → State → Bool
-rangesRight h s = leb (h .omits) omitLimit && every rangeRight (s .processes)
-
--- a received byte's answer
-abbrev pub answeredWith : State → Received → ByteEvent
-answeredWith s a = record { state = s; answer = a }
-
--- a received byte: 25, then 21; "It counts for waits in every case"
-unfoldable pub byteEvent : List ℕ → Heads → State → ℕ → ByteEvent
-byteEvent pool h s b =
-    cond (rangesRight h s)
-    (cond (busy s)
-    (answeredWith s (received.Refused Busy))
-    (answeredWith (withProcesses s (map (byteTaken pool b) (s .processes))) (received.Took (record { count = copies h (s .paused) b }))))
-    (answeredWith s (received.Refused BadTable))

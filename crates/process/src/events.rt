@@ -23,7 +23,7 @@ impl Process {
     }
 
     // A process with another wait.
-    pub(crate) fn with(self, wait: Wait) -> Self
+    pub fn with(self, wait: Wait) -> Self
         ensures { λ r. ⌜ r ≡ withWait self wait ⌝ }
     {
         let left = self.left;
@@ -62,7 +62,7 @@ impl Process {
 }
 
 // Whether some process is ready.
-pub(crate) fn any_ready(ps: [Process; PROCESSES]) -> bool
+pub fn any_ready(ps: [Process; PROCESSES]) -> bool
     ensures { λ r. ⌜ r ≡ any ready ps ⌝ }
 {
     for i in 0..8 {

@@ -4,8 +4,6 @@ ghost use Rattle.process.specs.Events.{refusalNumber};
 use language::Clock;
 
 pub mod events;
-mod matching;
-pub mod receiving;
 pub mod waits;
 
 use language::LOOPS;

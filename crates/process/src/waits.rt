@@ -14,7 +14,7 @@ pub fn awaken(place: u16, end: u16) -> Wait
     if place < end { Wait::Ready } else { Wait::Over }
 }
 
-pub(crate) fn both(a: bool, b: bool) -> bool
+pub fn both(a: bool, b: bool) -> bool
     ensures { λ r. ⌜ r ≡ (a && b) ⌝ }
 {
     if a { b } else { false }

@@ -20,11 +20,12 @@ use Rattle.runner.specs.declared.Outcome.the-variants.{Quiet, Sent, Recorded, R
 use Rattle.process.specs.declared.Event.{Event}
 use Rattle.process.specs.declared.ByteEvent.{ByteEvent}
 use Rattle.runner.specs.declared.Drained.{Drained}
-use Rattle.process.specs.Events.{refusalNumber, busy, refused, took, tickEvent, readingRight, readingEvent, levelEvent, rangesRight, byteEvent}
+use Rattle.process.specs.Events.{refusalNumber, busy, refused, took, tickEvent, readingRight, readingEvent, levelEvent}
+use Rattle.receiving.specs.Receiving.{rangesRight, byteEvent}
 use Rattle.statement.specs.Moving.{moved, cellAt}
 use Rattle.runner.specs.Draining.{lowest, turn, outcomeOf, does, writes, stateAfter, unaltered, drained, bufferAfter, countsAfter}
 use Rattle.runner.specs.Calls as calls
-use Rattle.runner.specs.Starting.{startEvent, startCounts}
+use Rattle.starting.specs.Starting.{startEvent, startCounts}
 use Rattle.runner.specs.Calls.{Box, Call, start, tick, byte, reading, drain, Reply, event, outcome, Called, boxed, startCall}
 use Rattle.promises.specs.Replies.{called, takenNumber, receivedNumber, outcomeNumber, replyNumber}
 use Rattle.promises.specs.Demand1.{Refuses, Spares}

@@ -17,7 +17,7 @@ use Rattle.process.specs.declared.Process.{Process}
 use Rattle.process.specs.Waiting.{readyWait}
 use Rattle.runner.specs.Draining.{nobody}
 use Rattle.runner.specs.Calls as calls
-use Rattle.runner.specs.Starting.{startEvent, startCounts}
+use Rattle.starting.specs.Starting.{startEvent, startCounts}
 use Rattle.runner.specs.Calls.{Box, Call, startCall}
 use Rattle.promises.specs.Replies.{Compiles}
 use Rattle.promises.specs.Demand3.{tally, Run, next, after, fresh, firstOf, endOf, Safe, Bounded}

@@ -16,7 +16,7 @@ use Rattle.accepted.specs.Accepted.{tableRight}
 use Rattle.process.specs.Waiting.{awake}
 use Rattle.statement.specs.Moving.{restsUnless, movedBy, moved}
 use Rattle.runner.specs.Draining.{lowest, outcomeOf, drained, stateAfter}
-use Rattle.runner.specs.Starting.{started, startedFrom, startState, noCounts, startEvent, startCounts}
+use Rattle.starting.specs.Starting.{started, startedFrom, startState, noCounts, startEvent, startCounts}
 use Rattle.runner.specs.Calls as calls
 use Rattle.runner.specs.Calls.{Box, Call, drain, boxed, startCall}
 use Rattle.promises.specs.Replies.{Compiles}

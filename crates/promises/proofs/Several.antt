@@ -15,7 +15,7 @@ use Rattle.process.specs.declared.Process.{Process}
 use Rattle.process.specs.Waiting.{ready, rangeRight}
 use Rattle.process.specs.Events.{any, every}
 use Rattle.runner.specs.Draining.{lowest, nobody}
-use Rattle.runner.specs.Starting.{started, startedFrom}
+use Rattle.starting.specs.Starting.{started, startedFrom}
 
 -- ---- the lowest that is ready
 

@@ -23,7 +23,8 @@ use Rattle.process.specs.declared.Event.{Event}
 use Rattle.process.specs.declared.ByteEvent.{ByteEvent}
 use Rattle.runner.specs.declared.Drained.{Drained}
 use Rattle.process.specs.Waiting.{byteTaken}
-use Rattle.process.specs.Events.{busy, refused, took, answeredWith, tickEvent, readingRight, readingEvent, levelEvent, rangesRight, byteEvent}
+use Rattle.process.specs.Events.{busy, refused, took, tickEvent, readingRight, readingEvent, levelEvent}
+use Rattle.receiving.specs.Receiving.{answeredWith, rangesRight, byteEvent}
 use Rattle.statement.specs.Moving.{moved, cellAt}
 use Rattle.runner.specs.Draining.{lowest, nobody, turn, outcomeOf, does, writes, unaltered, stateAfter, drained, countsAfter}
 use Rattle.runner.specs.Calls as calls

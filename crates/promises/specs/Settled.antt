@@ -17,9 +17,10 @@ use Rattle.process.specs.declared.Reading.{Reading}
 use Rattle.process.specs.declared.State.{State}
 use Rattle.process.specs.declared.Event.{Event}
 use Rattle.process.specs.declared.ByteEvent.{ByteEvent}
-use Rattle.process.specs.Events.{tickEvent, readingEvent, levelEvent, byteEvent}
+use Rattle.process.specs.Events.{tickEvent, readingEvent, levelEvent}
+use Rattle.receiving.specs.Receiving.{byteEvent}
 use Rattle.runner.specs.declared.Drained.{Drained}
-use Rattle.runner.specs.Starting.{startEvent, startCounts}
+use Rattle.starting.specs.Starting.{startEvent, startCounts}
 use Rattle.runner.specs.Draining.{drained, bufferAfter, countsAfter}
 
 -- two outcomes that meet a statement are equal

@@ -20,7 +20,8 @@ use Rattle.process.specs.declared.Received.the-variants as received
 use Rattle.process.specs.declared.Copies.{Copies}
 use Rattle.process.specs.Matching.{last, progress}
 use Rattle.process.specs.Waiting.{awake, tickedWait, awaited, matchedTo, byteWait, byteTaken}
-use Rattle.process.specs.Events.{busy, rangesRight, byteEvent}
+use Rattle.process.specs.Events.{busy}
+use Rattle.receiving.specs.Receiving.{rangesRight, byteEvent}
 use Rattle.statement.specs.Moving.{moved}
 use Rattle.runner.specs.Draining.{lowest, nobody, turn, does}
 use Rattle.runner.specs.Calls as calls

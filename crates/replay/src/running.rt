@@ -15,12 +15,12 @@ use process::State;
 use process::events::read_clock;
 use process::events::set_level;
 use process::events::tick;
-use process::receiving::receive;
-use runner::Counts;
+use receiving::receive;
 use runner::Drained;
 use runner::draining::drain;
-use runner::starting::idle;
-use runner::starting::start;
+use starting::Counts;
+use starting::idle;
+use starting::start;
 use words::is_named;
 
 // The state after an operation, and how long the line is that tells its outcome.

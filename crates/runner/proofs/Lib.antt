@@ -1,4 +1,3 @@
 pub mod Lowest
 pub mod Written
 pub mod Drains
-pub mod Started

@@ -10,9 +10,10 @@ use Rattle.process.specs.declared.Received.{Received}
 use Rattle.runner.specs.declared.Outcome.{Outcome}
 use Rattle.process.specs.declared.Event.{Event}
 use Rattle.process.specs.declared.ByteEvent.{ByteEvent}
-use Rattle.process.specs.Events.{tickEvent, readingEvent, levelEvent, byteEvent}
+use Rattle.process.specs.Events.{tickEvent, readingEvent, levelEvent}
+use Rattle.receiving.specs.Receiving.{byteEvent}
 use Rattle.runner.specs.Draining.{does, writes, drained, countsAfter}
-use Rattle.runner.specs.Starting.{startEvent, startCounts}
+use Rattle.starting.specs.Starting.{startEvent, startCounts}
 
 -- what is handed on from call to call
 pub record Box : Type 0 where

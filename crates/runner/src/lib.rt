@@ -1,13 +1,8 @@
-// The runner: the start and the drain, on a lent table, lent counts and a state by value. The four events are `process`'s.
+// The runner: the drain, on a lent table, lent counts and a state by value. Start is `starting`'s, the events are `process`'s and `receiving`'s.
 pub mod draining;
-pub mod starting;
 
-use language::LINES;
 use process::Refusal;
 use process::State;
-
-// How often each LOG statement has recorded, by the place of its cell.
-pub type Counts = [u32; LINES];
 
 pub struct Length {
     pub bytes: usize,

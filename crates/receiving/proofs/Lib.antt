@@ -1,0 +1,4 @@
+pub mod DataCases
+pub mod Overlaps
+pub mod Copying
+pub mod ByteCases

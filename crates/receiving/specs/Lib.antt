@@ -1,0 +1,3 @@
+-- Document 01, "Running": a received byte.
+pub mod Recording
+pub mod Receiving

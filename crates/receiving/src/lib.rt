@@ -1,0 +1,222 @@
+// A received byte: what it does to each wait, and how often it is recorded.
+ghost use mathlib.Core.Path.{_≡_};
+ghost use mathlib.Core.Bool.{true};
+ghost use mathlib.Core.List.{map};
+ghost use Prim.Native.Nat.{_+_, _≤_};
+ghost use lib.ListN.{length, take};
+ghost use Rattle.process.specs.Matching.{advance};
+ghost use Rattle.process.specs.Waiting.{awaited, matchedWait, byteWait, byteTaken, progressRight, waitRight, rangeRight};
+ghost use Rattle.receiving.specs.Recording.{oneOf, copies};
+ghost use Rattle.process.specs.Events.{every};
+ghost use Rattle.receiving.specs.Receiving.{answeredWith, byteEvent};
+use language::Heads;
+use language::PROCESSES;
+use language::Pool;
+use process::ByteEvent;
+use process::Copies;
+use process::Process;
+use process::Progress;
+use process::Received;
+use process::Refusal;
+use process::State;
+use process::Wait;
+use process::events::any_ready;
+use process::waits::awaken;
+use process::waits::both;
+
+mod matching;
+
+use matching::advanced;
+
+fn wide(x: u16) -> usize
+    ensures { λ r. ⌜ r ≡ x ⌝ }
+{
+    x as usize
+}
+
+// Whether the data lie within the pool, and what is matched within the data.
+fn progress_right(m: Progress) -> bool
+    ensures { λ r. ⌜ r ≡ progressRight m ⌝ }
+{
+    both(wide(m.from) + wide(m.count) <= 1024, m.matched < m.count)
+}
+
+// The data of a wait.
+fn awaited_data(pool: &Pool, m: Progress) -> &[u8]
+    requires { ⌜ m .from + m .count ≤ 1024 ⌝ }
+    ensures { λ r. ⌜ (now r ≡ awaited (now (pool .entry)) m) × (length (now r) ≡ m .count) ⌝ }
+{
+    let from = wide(m.from);
+    let count = wide(m.count);
+    let bytes: &[u8] = pool;
+    let to = from + count;
+    &bytes[from..to]
+}
+
+// k bytes of the data are matched now: the wait is over where that is all of them.
+fn matched(m: Progress, k: usize, place: u16, end: u16) -> Wait
+    requires { ⌜ k ≤ 1024 ⌝ }
+    ensures { λ r. ⌜ r ≡ matchedWait place end m k ⌝ }
+{
+    if k == wide(m.count) {
+        return awaken(place, end);
+    }
+    Wait::Data(Progress {
+        from: m.from,
+        count: m.count,
+        matched: k as u16,
+    })
+}
+
+// One more byte for a wait for data.
+fn match_byte(pool: &Pool, m: Progress, b: u8, place: u16, end: u16) -> Wait
+    requires { ⌜ progressRight m ≡ true ⌝ }
+    ensures { λ r. ⌜ r ≡ matchedWait place end m (advance (awaited (now (pool .entry)) m) (m .matched) b) ⌝ }
+{
+    let want = awaited_data(pool, m);
+    let k = advanced(want, wide(m.matched), b);
+    matched(m, k, place, end)
+}
+
+// Whether the data range of a wait lies within the pool.
+fn wait_right(w: Wait) -> bool
+    ensures { λ r. ⌜ r ≡ waitRight w ⌝ }
+{
+    match w {
+        Wait::Ready => true,
+        Wait::Over => true,
+        Wait::Ticks(_) => true,
+        Wait::Bytes(_) => true,
+        Wait::Data(m) => progress_right(m),
+        Wait::ClockValue(_) => true,
+        Wait::Signal(_) => true,
+    }
+}
+
+// "WAIT BYTE likewise for bytes. WAIT DATA ends when the last bytes received since it began equal its data."
+fn wait_byte(w: Wait, pool: &Pool, b: u8, place: u16, end: u16) -> Wait
+    requires { ⌜ waitRight w ≡ true ⌝ }
+    ensures { λ r. ⌜ r ≡ byteWait (now (pool .entry)) b place end w ⌝ }
+{
+    match w {
+        Wait::Ready => w,
+        Wait::Over => w,
+        Wait::Ticks(_) => w,
+        Wait::Bytes(n) => {
+            if n <= 1 {
+                return awaken(place, end);
+            }
+            Wait::Bytes(n - 1)
+        }
+        Wait::Data(m) => match_byte(pool, m, b, place, end),
+        Wait::ClockValue(_) => w,
+        Wait::Signal(_) => w,
+    }
+}
+
+fn range_right(p: Process) -> bool
+    ensures { λ r. ⌜ r ≡ rangeRight p ⌝ }
+{
+    let w = p.wait;
+    wait_right(w)
+}
+
+fn take_byte(p: Process, pool: &Pool, b: u8) -> Process
+    requires { ⌜ rangeRight p ≡ true ⌝ }
+    ensures { λ r. ⌜ r ≡ byteTaken (now (pool .entry)) b p ⌝ }
+{
+    let w = p.wait;
+    p.with(wait_byte(w, pool, b, p.place, p.end))
+}
+
+// Whether every data range that the event must use lies within the pool.
+fn all_right(ps: [Process; PROCESSES]) -> bool
+    ensures { λ r. ⌜ r ≡ every rangeRight ps ⌝ }
+{
+    for i in 0..8 {
+        let p = ps[i];
+        if range_right(p) {} else {
+            return false;
+        }
+    }
+    true
+}
+
+// Whether a byte is one of the first of some.
+fn is_one_of(bytes: &[u8], count: usize, b: u8) -> bool
+    ensures { λ r. ⌜ r ≡ oneOf (take count (now (bytes .entry))) b ⌝ }
+{
+    let mut i = 0usize;
+    while i < bytes.len() {
+        if count <= i {
+            return false;
+        }
+        if bytes[i] == b {
+            return true;
+        }
+        i += 1;
+    }
+    false
+}
+
+fn all_byte(ps: [Process; PROCESSES], pool: &Pool, b: u8) -> [Process; PROCESSES]
+    requires { ⌜ every rangeRight ps ≡ true ⌝ }
+    ensures { λ r. ⌜ r ≡ map (byteTaken (now (pool .entry)) b) ps ⌝ }
+{
+    let mut next = ps;
+    for i in 0..8 {
+        let p = next[i];
+        next[i] = take_byte(p, pool, b);
+    }
+    next
+}
+
+// How often a byte is recorded: "not at all if paused or in OMIT; in all other cases twice if it is the ENCODE byte".
+fn recorded(heads: Heads, paused: bool, b: u8) -> u8
+    ensures { λ r. ⌜ r ≡ copies heads paused b ⌝ }
+{
+    if paused {
+        return 0;
+    }
+    let omit = heads.omit;
+    if is_one_of(&omit, heads.omits as usize, b) {
+        return 0;
+    }
+    if heads.encodes {
+        if heads.encode == b {
+            return 2;
+        }
+        return 1;
+    }
+    1
+}
+
+fn answer(s: State, a: Received) -> ByteEvent
+    ensures { λ r. ⌜ r ≡ answeredWith s a ⌝ }
+{
+    ByteEvent {
+        state: s,
+        answer: a,
+    }
+}
+
+// A received byte.
+pub fn receive(pool: &Pool, heads: Heads, s: State, b: u8) -> ByteEvent
+    ensures { λ r. ⌜ r ≡ byteEvent (now (pool .entry)) heads s b ⌝ }
+{
+    let ps = s.processes;
+    if 10 < heads.omits {
+        return answer(s, Received::Refused(Refusal::BadTable));
+    }
+    if all_right(ps) {
+        if any_ready(ps) {
+            return answer(s, Received::Refused(Refusal::Busy));
+        }
+        let count = recorded(heads, s.paused, b);
+        let next = all_byte(ps, pool, b);
+        let mut t = s;
+        t.processes = next;
+        return answer(t, Received::Took(Copies { count }));
+    }
+    answer(s, Received::Refused(Refusal::BadTable))
+}
