@@ -3,7 +3,5 @@ pub mod Cuts
 -- what stands behind the names of settings
 pub mod Encoding
 pub mod Extension
--- numbers and times
-pub mod Timing
 -- signs
 pub mod Signing

@@ -2,11 +2,7 @@
 use Prim.Native.Nat.{ℕ}
 use mathlib.Core.Bool.{cond}
 use mathlib.Core.List.{List}
-use lib.Dec.{eqb}
-use lib.ListN.{length}
 use Rattle.reader.specs.Bytes.{all, same, isBlank}
-use Rattle.reader.specs.declared.Number.{Number}
-use Rattle.reader.specs.declared.Number.the-variants as Number
 use Rattle.language.specs.declared.Fault.the-variants.{NoSuchName, BadRest}
 use Rattle.arguments.specs.declared.Line.{Line}
 use Rattle.arguments.specs.declared.Line.the-variants.{Faulty}
@@ -14,8 +10,3 @@ use Rattle.arguments.specs.declared.Line.the-variants.{Faulty}
 -- a name with nothing behind it
 unfoldable pub bareLine : List ℕ → List ℕ → List ℕ → Line → Line
 bareLine word name rest told = cond (same word name) (cond (all isBlank rest) told (Faulty BadRest)) (Faulty NoSuchName)
-
--- a number with nothing behind it
-unfoldable pub whole : List ℕ → Number → Number
-whole a (Number.Value v next) = cond (eqb next (length a)) (Number.Value v next) (Number.Bad next)
-whole a (Number.Bad at) = Number.Bad at

@@ -1,11 +1,10 @@
-// What stands behind a name, read in code: numbers and times, the values of settings; and what a line is told as.
+// What stands behind a name, read in code: the values of settings; and what a line is told as.
 use language::Cell;
 use language::Fault;
 
 pub mod parts;
 pub mod settings;
 pub mod spelling;
-pub mod times;
 
 // The letters of LFEXT, made capital, with zeros behind them.
 pub struct Letters {

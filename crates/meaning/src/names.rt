@@ -15,12 +15,12 @@ use arguments::parts::is_name;
 use arguments::settings::encode;
 use arguments::settings::lfext;
 use arguments::settings::stopbits;
-use arguments::times::loop_count;
 use language::Cell;
 use language::Fault;
 use naming::only_ex;
 use naming::pause_or_process;
 use naming::rts_or_resume;
+use times::loop_count;
 use words::word_end;
 
 // LOOP and LOG.

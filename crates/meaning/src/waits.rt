@@ -10,11 +10,11 @@ use super::texts::wait_data;
 use arguments::Line;
 use arguments::parts::argument;
 use arguments::parts::is_name;
-use arguments::times::wait_byte;
-use arguments::times::wait_time;
 use language::Fault;
 use naming::of_five;
 use naming::of_six;
+use times::wait_byte;
+use times::wait_time;
 use words::after_blanks;
 use words::word_end;
 

@@ -1,10 +1,10 @@
 -- `wait_time` meets its contract: each `return` is a case of `timeBy`. Assumes nothing.
 use mathlib.Core.Path.{sym, ap, _∙_}
 use Rattle.arguments.specs.Shown.{shown}
-use Rattle.arguments.proofs.Timing.{time-small, time-within, time-number, no-number, bad-number}
+use Rattle.times.proofs.Timing.{time-small, time-within, time-number, no-number, bad-number}
 use borrow.Author.Needs.{needs}
-use Rattle.arguments.proofs.times.wait_time.Statement.{statement}
-use Rattle.arguments.proofs.times.wait_time.Tie as tie
+use Rattle.times.proofs.wait_time.Statement.{statement}
+use Rattle.times.proofs.wait_time.Tie as tie
 
 number-requires : tie.Need-number-requires
 number-requires c κs = search needs

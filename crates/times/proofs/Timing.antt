@@ -18,8 +18,8 @@ use Rattle.language.specs.declared.Fault.the-variants.{BadRest}
 use Rattle.language.specs.Script.{Statement, loop, waitTime, waitByte, says, fault}
 use Rattle.language.specs.Meaning.{numberSays, number, loopOf, byteOf, timeIn, timeBy, timeOf}
 use Rattle.language.proofs.Reading.{Reads, number-reads}
-use Rattle.arguments.specs.Parts.{whole}
+use Rattle.times.specs.Parts.{whole}
 use Rattle.arguments.proofs.Cuts.{to-end}
 
 -- ---- a number with nothing behind it
 

@@ -2,11 +2,11 @@
 use mathlib.Core.Path.{sym, ap, _∙_}
 use native.Mathlib.Omega.{arith}
 use Rattle.language.specs.Table.{cellFor}
 use Rattle.arguments.specs.Shown.{shown}
-use Rattle.arguments.proofs.Timing.{number-read, number-refused, number-small, loop-nothing, loop-ever, loop-number}
+use Rattle.times.proofs.Timing.{number-read, number-refused, number-small, loop-nothing, loop-ever, loop-number}
 use borrow.Author.Needs.{needs}
-use Rattle.arguments.proofs.times.loop_count.Statement.{statement}
-use Rattle.arguments.proofs.times.loop_count.Tie as tie
+use Rattle.times.proofs.loop_count.Statement.{statement}
+use Rattle.times.proofs.loop_count.Tie as tie
 
 returns : tie.Need-returns
 unfolding shown cellFor

@@ -1,10 +1,10 @@
 -- `whole_number` meets its contract: each `return` is a case of `whole`. Assumes nothing.
 use mathlib.Core.Path.{sym, ap, _∙_}
-use Rattle.arguments.specs.Parts.{whole}
-use Rattle.arguments.proofs.Timing.{all-read, surplus}
+use Rattle.times.specs.Parts.{whole}
+use Rattle.times.proofs.Timing.{all-read, surplus}
 use borrow.Author.Needs.{needs}
-use Rattle.arguments.proofs.times.whole_number.Statement.{statement}
-use Rattle.arguments.proofs.times.whole_number.Tie as tie
+use Rattle.times.proofs.whole_number.Statement.{statement}
+use Rattle.times.proofs.whole_number.Tie as tie
 
 number-requires : tie.Need-number-requires
 number-requires c κs = search needs

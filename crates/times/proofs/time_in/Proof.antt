@@ -1,11 +1,11 @@
 -- `time_in` meets its contract: each `return` is a case of `timeIn`. Assumes nothing.
 use mathlib.Core.Path.{sym, ap, _∙_}
 use Rattle.language.specs.Table.{cellFor}
 use Rattle.arguments.specs.Shown.{shown}
-use Rattle.arguments.proofs.Timing.{no-unit, in-ms, in-s, in-m, too-many-m, bad-unit}
+use Rattle.times.proofs.Timing.{no-unit, in-ms, in-s, in-m, too-many-m, bad-unit}
 use borrow.Author.Needs.{needs}
-use Rattle.arguments.proofs.times.time_in.Statement.{statement}
-use Rattle.arguments.proofs.times.time_in.Tie as tie
+use Rattle.times.proofs.time_in.Statement.{statement}
+use Rattle.times.proofs.time_in.Tie as tie
 
 mul-t8 : tie.Need-mul-t8
 mul-t8 c = search needs
