@@ -4,6 +4,7 @@
 //   benchmark tick SCRIPT N       the same with ticks
 //   benchmark drain SCRIPT N      starts the script and does N thousand drains, with a tick whenever it is quiet
 use compiler::compile;
+use events::tick;
 use language::Answer;
 use language::Cells;
 use language::Heads;
@@ -13,7 +14,6 @@ use libc::STDOUT_FILENO;
 use process::Received;
 use process::State;
 use process::Taken;
-use process::events::tick;
 use reader::Number;
 use reader::numbers::number;
 use receiving::receive;

@@ -1,3 +1,2 @@
 pub mod WaitCases
 pub mod Loops
-pub mod EventCases

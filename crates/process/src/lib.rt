@@ -1,9 +1,9 @@
-// A process and what it waits for, and the four events. A state by value, a lent pool.
+// A process and what it waits for. A state by value.
 ghost use mathlib.Core.Path.{_≡_};
 ghost use Rattle.process.specs.Events.{refusalNumber};
 use language::Clock;
 
-pub mod events;
+pub mod taking;
 pub mod waits;
 
 use language::LOOPS;

@@ -20,7 +20,7 @@ use process::Received;
 use process::Refusal;
 use process::State;
 use process::Wait;
-use process::events::any_ready;
+use process::taking::any_ready;
 use process::waits::awaken;
 use process::waits::both;
 

@@ -1,9 +1,9 @@
--- `process::events::set_level` meets its contract. Assumes nothing.
+-- `events::set_level` meets its contract. Assumes nothing.
 use mathlib.Core.Path.{sym, _∙_}
-use Rattle.process.proofs.EventCases.{level-busy, level-takes, level-none}
+use Rattle.events.proofs.EventCases.{level-busy, level-takes, level-none}
 use borrow.Author.Needs.{needs}
-use Rattle.process.proofs.events.set_level.Statement.{statement}
-use Rattle.process.proofs.events.set_level.Tie as tie
+use Rattle.events.proofs.set_level.Statement.{statement}
+use Rattle.events.proofs.set_level.Tie as tie
 
 any-ready-requires : tie.Need-any-ready-requires
 any-ready-requires c κs = search needs

@@ -1,8 +1,8 @@
--- `process::events::reading_right` meets its contract. Assumes nothing.
+-- `events::reading_right` meets its contract. Assumes nothing.
 use Rattle.process.specs.Events.{readingRight}
 use borrow.Author.Needs.{needs}
-use Rattle.process.proofs.events.reading_right.Statement.{statement}
-use Rattle.process.proofs.events.reading_right.Tie as tie
+use Rattle.events.proofs.reading_right.Statement.{statement}
+use Rattle.events.proofs.reading_right.Tie as tie
 
 both-requires : tie.Need-both-requires
 both-requires c κs = search needs

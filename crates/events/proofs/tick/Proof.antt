@@ -1,9 +1,9 @@
--- `process::events::tick` meets its contract. Assumes nothing.
+-- `events::tick` meets its contract. Assumes nothing.
 use mathlib.Core.Path.{sym, _∙_}
-use Rattle.process.proofs.EventCases.{tick-busy, tick-takes}
+use Rattle.events.proofs.EventCases.{tick-busy, tick-takes}
 use borrow.Author.Needs.{needs}
-use Rattle.process.proofs.events.tick.Statement.{statement}
-use Rattle.process.proofs.events.tick.Tie as tie
+use Rattle.events.proofs.tick.Statement.{statement}
+use Rattle.events.proofs.tick.Tie as tie
 
 any-ready-requires : tie.Need-any-ready-requires
 any-ready-requires c κs = search needs

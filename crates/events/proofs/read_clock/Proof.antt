@@ -1,9 +1,9 @@
--- `process::events::read_clock` meets its contract. Assumes nothing.
+-- `events::read_clock` meets its contract. Assumes nothing.
 use mathlib.Core.Path.{sym, _∙_}
-use Rattle.process.proofs.EventCases.{reading-busy, reading-takes, reading-wrong}
+use Rattle.events.proofs.EventCases.{reading-busy, reading-takes, reading-wrong}
 use borrow.Author.Needs.{needs}
-use Rattle.process.proofs.events.read_clock.Statement.{statement}
-use Rattle.process.proofs.events.read_clock.Tie as tie
+use Rattle.events.proofs.read_clock.Statement.{statement}
+use Rattle.events.proofs.read_clock.Tie as tie
 
 any-ready-requires : tie.Need-any-ready-requires
 any-ready-requires c κs = search needs

@@ -1,13 +1,13 @@
--- `process::events::all_level` meets its contract: the first i processes are done, the others are as they were. Assumes nothing.
+-- `events::all_level` meets its contract: the first i processes are done, the others are as they were. Assumes nothing.
 use mathlib.Core.Path.{_≡_, sym, _∙_}
 use Prim.Native.Nat.{_≤_, _-_}
 use native.Mathlib.Omega.{arith}
 use lib.ListN.{length}
 use borrow.Author.Needs.{needs}
 use Rattle.process.specs.Waiting.{levelTaken}
 use Rattle.process.proofs.Loops.{done, done-more, done-all}
-use Rattle.process.proofs.events.all_level.Statement.{statement}
-use Rattle.process.proofs.events.all_level.Tie as tie
+use Rattle.events.proofs.all_level.Statement.{statement}
+use Rattle.events.proofs.all_level.Tie as tie
 
 abbrev Inv-loop : tie.InvT-loop
 Inv-loop e next₀ i₀ next i = (i ≤ 8) × (next ≡ done (levelTaken e) i next₀)

@@ -1,4 +1,4 @@
--- `process::events::any_ready` meets its contract: the processes from i on decide. Assumes nothing.
+-- `process::taking::any_ready` meets its contract: the processes from i on decide. Assumes nothing.
 use mathlib.Core.Path.{_≡_, sym, _∙_}
 use Prim.Native.Nat.{_≤_, _-_}
 use native.Mathlib.Omega.{arith}
@@ -7,8 +7,8 @@ use borrow.Author.Needs.{needs}
 use Rattle.process.specs.Events.{any}
 use Rattle.process.specs.Waiting.{ready}
 use Rattle.process.proofs.Loops.{any-here, any-past, any-end}
-use Rattle.process.proofs.events.any_ready.Statement.{statement}
-use Rattle.process.proofs.events.any_ready.Tie as tie
+use Rattle.process.proofs.taking.any_ready.Statement.{statement}
+use Rattle.process.proofs.taking.any_ready.Tie as tie
 
 abbrev Inv-loop : tie.InvT-loop
 Inv-loop ps i₀ i = (i ≤ 8) × (any ready ps ≡ any ready (drop i ps))

@@ -1,78 +1,18 @@
-// The four events on a process and on the state.
+// A tick, a reading of the clock and a signal level, on the state.
 ghost use mathlib.Core.Path.{_≡_};
 ghost use mathlib.Core.List.{map};
-ghost use Rattle.process.specs.Waiting.{ready, withWait, ticked, readingTaken, levelTaken};
-ghost use Rattle.process.specs.Events.{any, refused, tickEvent, readingRight, readingEvent, levelEvent};
-use crate::Event;
-use crate::Process;
-use crate::Reading;
-use crate::Refusal;
-use crate::State;
-use crate::Taken;
-use crate::Wait;
-use crate::waits::both;
+ghost use Rattle.process.specs.Waiting.{ticked, readingTaken, levelTaken};
+ghost use Rattle.process.specs.Events.{refused, tickEvent, readingRight, readingEvent, levelEvent};
 use language::Level;
 use language::PROCESSES;
-
-impl Process {
-    pub fn is_ready(self) -> bool
-        ensures { λ r. ⌜ r ≡ ready self ⌝ }
-    {
-        let w = self.wait;
-        w.is_ready()
-    }
-
-    // A process with another wait.
-    pub fn with(self, wait: Wait) -> Self
-        ensures { λ r. ⌜ r ≡ withWait self wait ⌝ }
-    {
-        let left = self.left;
-        let back = self.back;
-        Process {
-            place: self.place,
-            end: self.end,
-            depth: self.depth,
-            left: left,
-            back: back,
-            wait: wait,
-        }
-    }
-
-    // "WAIT TIME of n ms ends at the n-th tick": the process takes a tick and is handed back.
-    pub fn tick(self) -> Self
-        ensures { λ r. ⌜ r ≡ ticked self ⌝ }
-    {
-        let w = self.wait;
-        self.with(w.tick(self.place, self.end))
-    }
-
-    pub fn read(self, r: Reading) -> Self
-        ensures { λ p. ⌜ p ≡ readingTaken r self ⌝ }
-    {
-        let w = self.wait;
-        self.with(w.read(r, self.place, self.end))
-    }
-
-    pub fn level(self, e: Level) -> Self
-        ensures { λ p. ⌜ p ≡ levelTaken e self ⌝ }
-    {
-        let w = self.wait;
-        self.with(w.level(e, self.place, self.end))
-    }
-}
-
-// Whether some process is ready.
-pub fn any_ready(ps: [Process; PROCESSES]) -> bool
-    ensures { λ r. ⌜ r ≡ any ready ps ⌝ }
-{
-    for i in 0..8 {
-        let p = ps[i];
-        if p.is_ready() {
-            return true;
-        }
-    }
-    false
-}
+use process::Event;
+use process::Process;
+use process::Reading;
+use process::Refusal;
+use process::State;
+use process::Taken;
+use process::taking::any_ready;
+use process::waits::both;
 
 fn all_ticked(ps: [Process; PROCESSES]) -> [Process; PROCESSES]
     ensures { λ r. ⌜ r ≡ map ticked ps ⌝ }
