@@ -2,12 +2,16 @@
 use mathlib.Core.Path.{_≡_, refl, sym}
 use mathlib.Core.Bool.{Bool, true, false, cond}
 use mathlib.Core.List.{List}
-use Prim.Native.Nat.{ℕ, _≤_}
+use Prim.Native.Nat.{ℕ, _+_, _≤_}
 use native.Mathlib.Omega.{arith}
 use lib.Dec.{leb}
 use lib.ListN.{length}
 use lib.Seq.{sets}
 use Rattle.reader.proofs.Tests.{true-is-false}
+use Rattle.reader.specs.declared.HexRead.the-variants.{Bytes, Full, Wrong}
+use Rattle.reader.specs.Hex.{Said, good, bad, hexInto, hexPut}
+use Rattle.writer.specs.declared.Put.the-variants.{Next, NoRoom}
+use Rattle.writer.specs.Put.{putAnswer, putInto}
 use Rattle.language.specs.declared.Table.{Table}
 use Rattle.language.specs.declared.Fault.{Fault}
 use Rattle.language.specs.declared.Fault.the-variants as fault
@@ -16,13 +20,14 @@ use Rattle.language.specs.Draft.{Result, accepted, refused}
 use Rattle.language.specs.Table.{zeros}
 use Rattle.language.specs.Answer as texts
 use Rattle.language.specs.Answer.{answered, scriptFrom, compiled}
+use Rattle.record.specs.Logging.{recordOf, recordAnswer, recordInto}
 use Rattle.accepted.specs.Accepted.{tableRight}
-use Rattle.lister.specs.declared.Wrong.{Wrong}
-use Rattle.lister.specs.declared.Wrong.the-variants.{BadTable, NoRoom}
+use Rattle.lister.specs.declared.Wrong as wrongs
+use Rattle.lister.specs.declared.Wrong.the-variants as wrong
 use Rattle.lister.specs.declared.Listed.the-variants.{Wrote, Refused}
 use Rattle.lister.specs.Listed as tables
 use Rattle.lister.specs.Listed.{listingOf, listAnswer, listInto}
-use Rattle.promises.specs.Demand1.{RefusesText, RefusesTable, AltersNothing}
+use Rattle.promises.specs.Demand1.{RefusesText, RefusesTable, WritesAllOrNothing, AltersNothing}
 use Rattle.promises.proofs.Demand1.{demand-1, demand-1-lent}
 
 -- ---- the compiler
@@ -53,13 +58,13 @@ refuses-text text = record { numbered = text-numbered; zeroed = zeroed (scriptFr
 
 -- ---- the lister
 
-table-numbered : (w : Wrong) → (25 ≤ tables.numberOf w) × (tables.numberOf w ≤ 26)
+table-numbered : (w : wrongs.Wrong) → (25 ≤ tables.numberOf w) × (tables.numberOf w ≤ 26)
 unfolding tables.numberOf
-table-numbered BadTable = (omega arith, omega arith)
-table-numbered NoRoom = (omega arith, omega arith)
+table-numbered wrong.BadTable = (omega arith, omega arith)
+table-numbered wrong.NoRoom = (omega arith, omega arith)
 
-unaltered-by : (right room : Bool) (n : ℕ) (w : Wrong) (out written : List ℕ) →
-    cond right (cond room (Wrote n) (Refused NoRoom)) (Refused BadTable) ≡ Refused w → cond right (cond room written out) out ≡ out
+unaltered-by : (right room : Bool) (n : ℕ) (w : wrongs.Wrong) (out written : List ℕ) →
+    cond right (cond room (Wrote n) (Refused wrong.NoRoom)) (Refused wrong.BadTable) ≡ Refused w → cond right (cond room written out) out ≡ out
 unaltered-by true true n w out written e = true-is-false (cc)
 unaltered-by true false n w out written e = refl
 unaltered-by false room n w out written e = refl
@@ -71,5 +76,38 @@ refuses-table t out = record {
   unaltered = λ w e. unaltered-by (tableRight t) (leb (length (listingOf t)) (length out)) (length (listingOf t)) w out (sets out 0 (listingOf t)) e;
 }
 
+-- ---- the writers
+
+kept-by : (room : Bool) (n : ℕ) (d written : List ℕ) → cond room (Next n) NoRoom ≡ NoRoom → cond room written d ≡ d
+kept-by true n d written e = true-is-false (cc)
+kept-by false n d written e = refl
+
+full-kept : (d : List ℕ) (s : Said) (to : ℕ) → hexInto s d to ≡ Full → hexPut s d to ≡ d
+unfolding hexInto hexPut
+full-kept d (bad at) to e = refl
+full-kept d (good bs) to e = go (leb (to + length bs) (length d)) e
+  where
+    go : (room : Bool) → cond room (Bytes (length bs)) Full ≡ Full → cond room (sets d to bs) d ≡ d
+    go true q = true-is-false (cc)
+    go false q = refl
+
+wrong-kept : (d : List ℕ) (s : Said) (to at : ℕ) → hexInto s d to ≡ Wrong at → hexPut s d to ≡ d
+unfolding hexInto hexPut
+wrong-kept d (bad x) to at e = refl
+wrong-kept d (good bs) to at e = go (leb (to + length bs) (length d)) e
+  where
+    go : (room : Bool) → cond room (Bytes (length bs)) Full ≡ Wrong at → cond room (sets d to bs) d ≡ d
+    go true q = true-is-false (cc)
+    go false q = refl
+
+writes-all-or-nothing : (d : List ℕ) → WritesAllOrNothing d
+unfolding putAnswer putInto recordAnswer recordInto
+writes-all-or-nothing d = record {
+  put = λ bs at e. kept-by (leb (at + length bs) (length d)) (at + length bs) d (sets d at bs) e;
+  hexFull = full-kept d;
+  hexWrong = wrong-kept d;
+  log = λ r count text e. kept-by (leb 127 (length d)) (length (recordOf r count text)) d (sets d 0 (recordOf r count text)) e;
+}
+
 pub alters-nothing : AltersNothing
-alters-nothing = record { compiler = refuses-text; lister = refuses-table; runner = demand-1; drain = demand-1-lent }
+alters-nothing = record { writers = writes-all-or-nothing; compiler = refuses-text; lister = refuses-table; runner = demand-1; drain = demand-1-lent }

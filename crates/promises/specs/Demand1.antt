@@ -6,16 +6,22 @@ use mathlib.Core.List.{List}
 use mathlib.Core.Logic.{_⊎_}
 use Prim.Native.Nat.{ℕ, _≤_, _<_}
 use lib.ListN.{length}
+use Rattle.reader.specs.declared.HexRead.the-variants.{Full, Wrong}
+use Rattle.reader.specs.Hex.{Said, hexInto, hexPut}
+use Rattle.writer.specs.declared.Put.the-variants.{NoRoom}
+use Rattle.writer.specs.Put.{putAnswer, putInto}
 use Rattle.language.specs.declared.Table.{Table}
 use Rattle.language.specs.declared.Fault.{Fault}
 use Rattle.language.specs.declared.Answer.the-variants as answer
 use Rattle.language.specs.Table.{zeros}
 use Rattle.language.specs.Answer as texts
 use Rattle.language.specs.Answer.{compiled}
-use Rattle.lister.specs.declared.Wrong.{Wrong}
+use Rattle.lister.specs.declared.Wrong as wrongs
 use Rattle.lister.specs.declared.Listed.the-variants as listed
 use Rattle.lister.specs.Listed as tables
 use Rattle.lister.specs.Listed.{listAnswer, listInto}
+use Rattle.process.specs.declared.Reading.{Reading}
+use Rattle.record.specs.Logging.{recordAnswer, recordInto}
 use Rattle.runner.specs.Draining.{drained, bufferAfter}
 use Rattle.runner.specs.Calls.{Box, Call}
 use Rattle.promises.specs.Replies.{called, outcomeNumber, replyNumber}
@@ -38,11 +44,19 @@ pub record RefusesText (text : List ℕ) : Type 0 where
 
 -- the lister: its numbers are 25 and 26, and the buffer that is lent to it has the bytes it had
 pub record RefusesTable (t : Table) (out : List ℕ) : Type 0 where
-  pub numbered : (w : Wrong) → (25 ≤ tables.numberOf w) × (tables.numberOf w ≤ 26)
-  pub unaltered : (w : Wrong) → listAnswer t out ≡ listed.Refused w → listInto t out ≡ out
+  pub numbered : (w : wrongs.Wrong) → (25 ≤ tables.numberOf w) × (tables.numberOf w ≤ 26)
+  pub unaltered : (w : wrongs.Wrong) → listAnswer t out ≡ listed.Refused w → listInto t out ≡ out
 
--- all of it: every text, every table with every lent buffer, every call on every box
+-- the writers, of any bytes, and the reader of hex data into a lent slice: where they do not write all, they write nothing
+pub record WritesAllOrNothing (d : List ℕ) : Type 0 where
+  pub put : (bs : List ℕ) (at : ℕ) → putAnswer bs d at ≡ NoRoom → putInto bs d at ≡ d
+  pub hexFull : (s : Said) (to : ℕ) → hexInto s d to ≡ Full → hexPut s d to ≡ d
+  pub hexWrong : (s : Said) (to at : ℕ) → hexInto s d to ≡ Wrong at → hexPut s d to ≡ d
+  pub log : (r : Reading) (count : ℕ) (text : List ℕ) → recordAnswer r count text d ≡ NoRoom → recordInto r count text d ≡ d
+
+-- all of it: every lent slice, every text, every table with every lent buffer, every call on every box
 pub record AltersNothing : Type 0 where
+  pub writers : (d : List ℕ) → WritesAllOrNothing d
   pub compiler : (text : List ℕ) → RefusesText text
   pub lister : (t : Table) (out : List ℕ) → RefusesTable t out
   pub runner : (t : Table) (b : Box) (q : Call) → Refuses t b q
