@@ -1,4 +1,7 @@
 -- `Figures::passes` meets its contract, by the test on n. Assumes nothing.
+use mathlib.Core.Path.{sym, ap, ap₂, _∙_}
+use Rattle.figures.specs.Figures.{joined, copies}
+use Rattle.figures.specs.Stretch.{over}
 use Rattle.figures.proofs.Shapes.{looped-ever, looped-some}
 use Rattle.figures.proofs.Calls.{free}
 use Rattle.figures.proofs.Figures.passes.Statement.{statement}
@@ -8,13 +11,18 @@ returns : tie.Need-returns
 returns c =
     let d = c .before .before .before in
     let a = d .before .before .before .args in
-    cc (looped-ever (a .n) (a .self) (d .if1 .taken))
+    let pass = d .before .join .ensures ∙ ap (joined (a .self)) (d .before .before .plain .ensures) in
+    c .join2 .ensures
+    ∙ ap₂ joined (c .before .before .repeat .ensures ∙ ap (copies over) pass) (c .before .endless .ensures)
+    ∙ sym (looped-ever (a .n) (a .self) (d .if1 .taken))
 
 returns-2 : tie.Need-returns-2
 returns-2 c =
     let d = c .before in
     let a = d .before .before .before .args in
-    cc (looped-some (a .n) (a .self) (d .if1 .left))
+    c .repeat2 .ensures
+    ∙ ap (copies (a .n)) (d .before .join .ensures ∙ ap (joined (a .self)) (d .before .before .plain .ensures))
+    ∙ sym (looped-some (a .n) (a .self) (d .if1 .left))
 
 pub passes-spec : {M : Type 1} → statement M
 passes-spec = tie.close (tie.spec free free free free free free returns returns-2)
