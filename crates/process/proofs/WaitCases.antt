@@ -1,14 +1,21 @@
 -- What the definitions of waiting come to, case by case: a proof cites a case. Assumes nothing.
-use Prim.Native.Nat.{ℕ}
+use Prim.Native.Nat.{ℕ, _-_}
 use mathlib.Core.Path.{_≡_}
 use mathlib.Core.Bool.{true, false}
+use lib.Dec.{leb}
 use Rattle.language.specs.declared.Clock.{Clock}
 use Rattle.language.specs.declared.Level.{Level}
 use Rattle.process.specs.declared.Reading.{Reading}
-use Rattle.process.specs.declared.Wait.the-variants.{ClockValue, Signal}
-use Rattle.process.specs.Waiting.{awake, matches, readingWait, sets, levelWait}
+use Rattle.process.specs.declared.Wait.the-variants.{Ticks, ClockValue, Signal}
+use Rattle.process.specs.Waiting.{awake, tickedWait, matches, readingWait, sets, levelWait}
 
 module _ (place end : ℕ) where
+  pub ticks-end : (n : ℕ) → leb n 1 ≡ true → tickedWait place end (Ticks n) ≡ awake place end
+  ticks-end n h = rw h
+
+  pub ticks-on : (n : ℕ) → leb n 1 ≡ false → tickedWait place end (Ticks n) ≡ Ticks (n - 1)
+  ticks-on n h = rw h
+
   pub clock-ends : (r : Reading) (c : Clock) → matches c r ≡ true → readingWait r place end (ClockValue c) ≡ awake place end
   clock-ends r c h = rw h
 

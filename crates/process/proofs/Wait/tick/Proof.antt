@@ -1,4 +1,7 @@
 -- `process::Wait::tick` meets its contract: each arm is given which variant the wait is. Assumes nothing.
+use mathlib.Core.Path.{sym, ap, _∙_}
+use Rattle.process.specs.Waiting.{tickedWait}
+use Rattle.process.proofs.WaitCases.{ticks-end, ticks-on}
 use borrow.Author.Tests.{le-leb, lt-leb}
 use borrow.Author.Needs.{needs}
 use Rattle.process.proofs.Wait.tick.Statement.{statement}
@@ -17,7 +20,11 @@ awaken-requires : tie.Need-awaken-requires
 awaken-requires c κs = search needs
 
 returns : tie.Need-returns
-returns c = cc (le-leb (c .before .before .before .self .given .0 .0) 1 (c .before .if1 .taken))
+returns c =
+    let w = c .before .before .before in
+    let a = w .before .before .args in
+    c .awaken .ensures
+    ∙ sym (ap (tickedWait (a .place) (a .end)) (w .self .given .1) ∙ ticks-end (a .place) (a .end) (w .self .given .0 .0) (le-leb (w .self .given .0 .0) 1 (c .before .if1 .taken)))
 
 sub-t7 : tie.Need-sub-t7
 sub-t7 c = search needs
@@ -41,7 +48,10 @@ returns-3 : tie.Need-returns-3
 returns-3 c = search needs
 
 returns-4 : tie.Need-returns-4
-returns-4 c = cc (lt-leb (c .before .before .self .given .0 .0) 1 (c .if1 .left))
+returns-4 c =
+    let w = c .before .before in
+    let a = w .before .before .args in
+    sym (ap (tickedWait (a .place) (a .end)) (w .self .given .1) ∙ ticks-on (a .place) (a .end) (w .self .given .0 .0) (lt-leb (w .self .given .0 .0) 1 (c .if1 .left)))
 
 returns-5 : tie.Need-returns-5
 returns-5 c = search needs

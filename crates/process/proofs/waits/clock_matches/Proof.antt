@@ -1,4 +1,6 @@
 -- `process::waits::clock_matches` meets its contract. Assumes nothing.
+use mathlib.Core.Path.{ap₂, _∙_}
+use mathlib.Core.Bool.{_&&_}
 use Rattle.process.specs.Waiting.{matches}
 use borrow.Author.Needs.{needs}
 use Rattle.process.proofs.waits.clock_matches.Statement.{statement}
@@ -27,7 +29,11 @@ both-requires-3 c κs = search needs
 
 returns : tie.Need-returns
 unfolding matches
-returns c = cc
+returns c =
+    let d = c .before .before .before in
+    let minute = c .before .before .both .ensures ∙ ap₂ _&&_ (d .before .before .unit-matches3 .ensures) (d .unit-matches4 .ensures) in
+    let hour = c .before .both2 .ensures ∙ ap₂ _&&_ (d .before .before .before .before .unit-matches2 .ensures) minute in
+    c .both3 .ensures ∙ ap₂ _&&_ (d .before .before .before .before .before .before .unit-matches .ensures) hour
 
 pub clock-matches-spec : {M : Type 1} → statement M
 clock-matches-spec =

@@ -1,4 +1,7 @@
 -- `process::waits::sets_level` meets its contract. Assumes nothing.
+use mathlib.Core.Path.{ap, _∙_}
+use mathlib.Core.Bool.{Bool, _&&_}
+use lib.Dec.{eqb}
 use Rattle.process.specs.Waiting.{sets}
 use borrow.Author.Needs.{needs}
 use Rattle.process.proofs.waits.sets_level.Statement.{statement}
@@ -12,7 +15,9 @@ both-requires c κs = search needs
 
 returns : tie.Need-returns
 unfolding sets
-returns c = cc
+returns c =
+    let a = c .before .before .before .before .args in
+    c .both .ensures ∙ ap (λ (x : Bool). eqb (a .l .signal) (a .e .signal) && x) (c .before .same-level .ensures)
 
 pub sets-level-spec : {M : Type 1} → statement M
 sets-level-spec = tie.close (tie.spec same-level-requires both-requires returns)
