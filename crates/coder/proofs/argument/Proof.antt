@@ -81,7 +81,7 @@ returns : tie.Need-returns
 returns c = search needs
 
 returns-2 : tie.Need-returns-2
-returns-2 c = cc
+returns-2 c = c .span-number .ensures ∙ sym (ap argumentOf (c .before .before .c .given .1))
 
 returns-3 : tie.Need-returns-3
 returns-3 c = search needs
@@ -93,7 +93,7 @@ returns-5 : tie.Need-returns-5
 returns-5 c = search needs
 
 returns-6 : tie.Need-returns-6
-returns-6 c = cc
+returns-6 c = c .span-number2 .ensures ∙ sym (ap argumentOf (c .before .before .c4 .given .1))
 
 returns-7 : tie.Need-returns-7
 returns-7 c = search needs
@@ -102,13 +102,13 @@ returns-8 : tie.Need-returns-8
 returns-8 c = c .clock-number .ensures ∙ sym (ap argumentOf (c .before .before .c6 .given .1))
 
 returns-9 : tie.Need-returns-9
-returns-9 c = cc
+returns-9 c = c .signal-number .ensures ∙ sym (ap argumentOf (c .before .before .c7 .given .1))
 
 returns-10 : tie.Need-returns-10
 returns-10 c = search needs
 
 returns-11 : tie.Need-returns-11
-returns-11 c = cc
+returns-11 c = c .span-number3 .ensures ∙ sym (ap argumentOf (c .before .before .c9 .given .1))
 
 returns-12 : tie.Need-returns-12
 returns-12 c = search needs

@@ -1,4 +1,6 @@
 -- `language::coder::code` meets its contract. Assumes nothing.
+use mathlib.Core.Path.{ap₂, _∙_}
+use Prim.Native.Nat.{ℕ, _+_, _*_, _%_}
 use Rattle.language.specs.Cell.{coded}
 use Rattle.coder.proofs.Coding.{kind-small}
 use borrow.Author.Needs.{needs}
@@ -16,7 +18,7 @@ word-requires c κs = rw (c .before .kind .ensures) (kind-small (c .before .befo
 
 returns : tie.Need-returns
 unfolding coded
-returns c = cc
+returns c = c .word .ensures ∙ ap₂ (λ (k n : ℕ). k * 67108864 + n % 67108864) (c .before .before .kind .ensures) (c .before .argument .ensures)
 
 pub code-spec : {M : Type 1} → statement M
 code-spec = tie.close (tie.spec kind-requires argument-requires word-requires returns)

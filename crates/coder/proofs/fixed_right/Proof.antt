@@ -1,4 +1,7 @@
 -- `language::coder::fixed_right` meets its contract. Assumes nothing.
+use mathlib.Core.Path.{ap, ap₂, _∙_}
+use mathlib.Core.Bool.{Bool, _&&_}
+use lib.Dec.{leb}
 use Rattle.language.specs.Cell.{fixedRight}
 use borrow.Author.Needs.{needs}
 use Rattle.coder.proofs.fixed_right.Statement.{statement}
@@ -30,7 +33,14 @@ both-requires-4 c κs = search needs
 
 returns : tie.Need-returns
 unfolding fixedRight
-returns c = cc
+returns c =
+    let d = c .before .before .before .before .before in
+    let e = d .before .before .before .before in
+    let a = e .before .before .before .before .args in
+    let minute = c .before .before .before .both .ensures ∙ ap₂ _&&_ (d .before .before .unit-right3 .ensures) (d .unit-right4 .ensures) in
+    let hour = c .before .before .both2 .ensures ∙ ap₂ _&&_ (e .unit-right2 .ensures) minute in
+    let day = c .before .both3 .ensures ∙ ap₂ _&&_ (e .before .before .unit-right .ensures) hour in
+    c .both4 .ensures ∙ ap (λ (x : Bool). leb (a .c .fixed) 4 && x) day
 
 pub fixed-right-spec : {M : Type 1} → statement M
 fixed-right-spec =

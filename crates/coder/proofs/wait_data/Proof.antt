@@ -1,12 +1,10 @@
+-- `coder::wait_data` meets its contract: a span in its range lies within the pool. Assumes nothing.
+use Rattle.language.specs.declared.Cell.the-variants.{WaitData}
 use Rattle.coder.proofs.Coding.{within-pool}
-use mathlib.Core.Path.{sym, _∙_}
+use mathlib.Core.Path.{sym, ap, _∙_}
 use borrow.Author.Needs.{needs}
 use Rattle.coder.proofs.wait_data.Statement.{statement}
 use Rattle.coder.proofs.wait_data.Tie as tie
-use Rattle.coder.proofs.wait_data.Reads as reads
-use Rattle.coder.proofs.wait_data.Lts as lts
-use Rattle.coder.proofs.span_of.Reads as span-of-reads
-use Rattle.coder.proofs.span_right.Reads as span-right-reads
 
 span-right-requires : tie.Need-span-right-requires
 span-right-requires c κs = search needs
@@ -15,7 +13,7 @@ span-of-requires : tie.Need-span-of-requires
 span-of-requires c κs = within-pool 1 115 (c .before .before .args .argument) (sym (c .before .span-right .ensures) ∙ c .if1 .taken)
 
 returns : tie.Need-returns
-returns c = rw (sym (c .before .before .span-right .ensures) ∙ c .before .if1 .taken) (cc)
+returns c = rw (sym (c .before .before .span-right .ensures) ∙ c .before .if1 .taken) (ap WaitData (c .span-of .ensures))
 
 returns-2 : tie.Need-returns-2
 returns-2 c = rw (sym (c .before .span-right .ensures) ∙ c .if1 .left)
