@@ -1,20 +1,21 @@
 -- The body read from a table whose words fit: its words, its data and its ends are the table's. Assumes nothing.
-use Prim.Native.Nat.{ℕ, zero, suc, _+_, _-_, _≤_}
+use Prim.Native.Nat.{ℕ, suc, _+_, _-_, _≤_}
 use mathlib.Core.Path.{_≡_, refl, sym, ap, ap₂, _∙_}
 use mathlib.Core.Bool.{Bool, true, false, _&&_}
 use mathlib.Core.List.{List, [], _∷_, _++_, append-assoc}
 use native.Mathlib.Omega.{arith}
 use lib.Dec.{leb}
 use lib.ListN.{length, take, drop, length-append, length-take, take-append-drop}
-use lib.Seq.{slice, slice-empty, length-slice, take-take, drop-append-le, take-all, length-take-le}
-use borrow.Author.Tests.{leb-true, le-leb}
+use lib.Seq.{slice, length-slice, take-take, drop-append-le}
+use borrow.Author.Tests.{leb-true}
 use Rattle.reader.proofs.Tests.{both-left, both-right, both}
 use Rattle.language.specs.Limits.{linesLimit, dataLimit}
 use Rattle.language.specs.Script.{Item, does, next, dataOf}
 use Rattle.language.specs.Right.{right, allRight}
 use Rattle.language.specs.Cell.{decoded}
-use Rattle.language.specs.Table.{wordsFrom, poolOf, endsFrom, statementOf, itemsOf, bodyFrom}
-use Rattle.accepted.specs.Tests.{cellFits, bytesIn, wordsFit, wordsEnd, rising, lastEnd}
+use Rattle.language.specs.Table.{wordsFrom, poolOf, endsFrom, itemsOf, bodyFrom}
+use Rattle.cells_fit.specs.Tests.{cellFits, bytesIn, wordsFit, wordsEnd}
+use Rattle.heads_fit.specs.Tests.{rising, lastEnd}
 use Rattle.accepted.proofs.Walk.{Walked, walked}
 
 -- ---- lists joined

@@ -1,20 +1,19 @@
 -- How many lines the listing of a table's script has, read off the heads. Assumes nothing.
-use Prim.Native.Nat.{ℕ, zero, suc, _+_, _-_, _≤_, _<_}
-use mathlib.Core.Path.{_≡_, refl, sym, ap, ap₂, _∙_}
-use mathlib.Core.Bool.{Bool, true, false, cond, _&&_, not}
-use mathlib.Core.List.{List, [], _∷_, _++_}
+use Prim.Native.Nat.{ℕ, suc, _+_, _-_, _≤_, _<_}
+use mathlib.Core.Path.{_≡_, refl, sym, ap, _∙_}
+use mathlib.Core.Bool.{Bool, true, false, _&&_, not}
+use mathlib.Core.List.{List, [], _∷_}
 use native.Mathlib.Omega.{arith}
 use lib.Dec.{ltb, eqb}
-use lib.ListN.{length, getD, take, length-append}
-use lib.Seq.{getD-take}
-use borrow.Author.Tests.{lt-ltb, le-ltb, eq-eqb, ne-eqb}
+use lib.ListN.{length, getD, length-append}
+use borrow.Author.Tests.{lt-ltb, ne-eqb}
 use Rattle.reader.specs.Ascii.{ascii}
 use Rattle.reader.specs.Bytes.{same}
 use Rattle.language.specs.Script.{Encode, unset, byte, Settings, Item, does, next, Script, dataOf}
 use Rattle.language.specs.Listing.{when, encodeLines, settingLines, itemLines, bodyLines, listedLines}
 use Rattle.language.specs.Right.{nextsIn}
 use Rattle.language.specs.Table.{wordsFrom, endsFrom, encodes}
-use Rattle.accepted.specs.Tests.{one}
+use Rattle.heads_fit.specs.Tests.{one}
 
 -- a list is not empty
 abbrev pub filled : List ℕ → Bool

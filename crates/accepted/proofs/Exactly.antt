@@ -1,12 +1,12 @@
 -- THE TEST IS EXACT: a table passes it exactly if there is a text that compiles to it. Assumes nothing.
 use Prim.Native.Nat.{ℕ}
-use mathlib.Core.Path.{_≡_, refl, sym, ap, _∙_}
-use mathlib.Core.Bool.{Bool, true, false, _&&_}
+use mathlib.Core.Path.{_≡_, refl, sym, ap}
+use mathlib.Core.Bool.{Bool, true, false}
 use mathlib.Core.List.{List}
 use borrow.Author.Tests.{eqb-true, eq-eqb}
 use lib.Dec.{eqb}
 use Rattle.reader.specs.Bytes.{all, same}
-use Rattle.reader.proofs.Tests.{both-left, both-right, both, true-is-false}
+use Rattle.reader.proofs.Tests.{both-left, both-right, both}
 use Rattle.reader.proofs.Same.{same-is, is-same}
 use Rattle.language.specs.declared.Heads.{Heads}
 use Rattle.language.specs.declared.Table.{Table}
@@ -20,9 +20,9 @@ use Rattle.language.specs.Right.{isByte, settingsRight, scriptRight}
 use Rattle.language.specs.Draft.{Result, accepted, refused, resultOf}
 use Rattle.language.specs.Table.{laidOut, scriptOf}
 use Rattle.language.specs.Answer.{answered, scriptFrom, compiled}
-use Rattle.language.proofs.Good.{Good, good}
+use Rattle.language.proofs.Good.{good}
 use Rattle.language.proofs.Tables.{script-back}
-use Rattle.language.proofs.Trip.{Has, right-accepted, accepted-right}
+use Rattle.language.proofs.Trip.{right-accepted, accepted-right}
 use Rattle.accepted.specs.Accepted.{sameFlag, sameHeads, sameTable, tableRight}
 
 flag-is : (a b : Bool) → sameFlag a b ≡ true → a ≡ b

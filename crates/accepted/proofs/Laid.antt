@@ -1,29 +1,27 @@
 -- The table that a right script is laid out in passes the tests. Assumes nothing.
-use Prim.Native.Nat.{ℕ, zero, suc, _+_, _-_, _≤_, _<_}
-use mathlib.Core.Path.{_≡_, refl, sym, ap, ap₂, _∙_}
-use mathlib.Core.Bool.{Bool, true, false, cond, _&&_, not}
+use Prim.Native.Nat.{ℕ, zero, suc, _+_, _-_, _≤_}
+use mathlib.Core.Path.{_≡_, refl, sym, ap, _∙_}
+use mathlib.Core.Bool.{true, cond, not}
 use mathlib.Core.List.{List, [], _∷_, _++_, append-assoc}
 use native.Mathlib.Omega.{arith}
-use lib.Dec.{ltb, leb, eqb}
-use lib.ListN.{length, getD, take, drop, replicate, length-append}
+use lib.Dec.{leb, eqb}
+use lib.ListN.{length, take, drop, replicate, length-append}
 use lib.Seq.{take-at, drop-at, drop-drop}
-use borrow.Author.Tests.{leb-true, le-leb, eqb-true, eq-eqb}
+use borrow.Author.Tests.{leb-true, le-leb, eq-eqb}
 use Rattle.reader.specs.Bytes.{same}
 use Rattle.reader.proofs.Tests.{both-left, both-right, both}
-use Rattle.language.specs.declared.Heads.{Heads}
-use Rattle.language.specs.declared.Table.{Table}
-use Rattle.language.specs.declared.Cell.{Cell}
-use Rattle.language.specs.Limits.{linesLimit, dataLimit, omitLimit, processLimit, sendRoom, waitRoom}
+use Rattle.language.specs.Limits.{linesLimit, dataLimit, omitLimit, processLimit}
 use Rattle.language.specs.Script.{Statement, send, loop, end, waitTime, waitData, waitByte, waitClock, waitSignal, rts, log, fchange, pause, resume, nop, Encode, unset, byte, Settings, Item, does, next, Script, dataOf}
 use Rattle.language.specs.Meaning.{extension}
-use Rattle.language.specs.Listing.{settingLines, listedLines}
-use Rattle.language.specs.Right.{right, allRight, dataIn, nextsIn, settingsRight, scriptRight}
-use Rattle.language.specs.Cell.{span, coded, decoded}
-use Rattle.language.specs.Table.{padded, cellFor, wordsFrom, poolOf, endsFrom, encodes, encodeByteOf, headsOf, laidOut, dataAt, lettersOf, settingsOf}
+use Rattle.language.specs.Right.{right, allRight, nextsIn, settingsRight}
+use Rattle.language.specs.Cell.{coded, decoded}
+use Rattle.language.specs.Table.{padded, cellFor, wordsFrom, poolOf, endsFrom, encodes, encodeByteOf, headsOf, laidOut, lettersOf, settingsOf}
 use Rattle.language.proofs.Cells.{decode-code}
 use Rattle.language.proofs.Tables.{cell-right, pool-length, settings-back}
 use Rattle.language.proofs.Good.{Good}
-use Rattle.accepted.specs.Tests.{zeros, follows, cellFits, bytesIn, wordsFit, wordsEnd, rising, lastEnd, endsOf, inUse, endsRight, cellsRight, settingsFit, linesIn, fits}
+use Rattle.heads_fit.specs.Tests.{zeros, rising, lastEnd, endsRight, settingsFit}
+use Rattle.cells_fit.specs.Tests.{cellsFit, follows, cellFits, bytesIn, wordsFit, wordsEnd}
+use Rattle.accepted.specs.Tests.{cellsRight, fits}
 use Rattle.accepted.proofs.Counting.{items-count, ends-count, lines-count}
 
 -- ---- zeros
@@ -151,7 +149,7 @@ module _ (stretch : List Statement → ℕ) (s : Script) (g : Good stretch s) wh
       rw (le-leb 1 (length es) some, le-leb (length es) processLimit few, pad-take processLimit es, ends-rising (s .body) 0 0 (omega (arith, words-few)), pad-drop processLimit es)
 
   pub laid-cells : cellsRight (laidOut s .cells) (laidOut s .pool) (headsOf s) ≡ true
-  unfolding cellsRight headsOf laidOut
+  unfolding cellsFit headsOf laidOut
   laid-cells =
       let ws : List ℕ = wordsFrom 0 (s .body) in
       let bytes : List ℕ = poolOf (s .body) in

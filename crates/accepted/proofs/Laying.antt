@@ -1,22 +1,24 @@
 -- A table that passes the tests is the one that its script is laid out in. Assumes nothing.
-use Prim.Native.Nat.{ℕ, zero, suc, _+_, _-_, _≤_}
+use Prim.Native.Nat.{ℕ, _+_, _-_, _≤_}
 use mathlib.Core.Path.{_≡_, refl, sym, ap, ap₂, _∙_}
-use mathlib.Core.Bool.{Bool, true, false, cond, _&&_, not}
-use mathlib.Core.List.{List, [], _∷_, _++_, append-assoc}
+use mathlib.Core.Bool.{Bool, true, false, cond}
+use mathlib.Core.List.{List, [], _∷_, _++_}
 use native.Mathlib.Omega.{arith}
-use lib.Dec.{ltb, leb, eqb}
+use lib.Dec.{leb, eqb}
 use lib.ListN.{length, getD, take, drop, replicate, length-append, length-take, length-drop, take-append-drop}
 use lib.Seq.{length-take-le, getD-take}
-use borrow.Author.Tests.{leb-true, eqb-true, eqb-false}
-use Rattle.reader.proofs.Tests.{both-left, both-right, both, true-is-false}
+use borrow.Author.Tests.{leb-true, eqb-true}
+use Rattle.reader.proofs.Tests.{both-left, both-right}
 use Rattle.language.specs.declared.Heads.{Heads}
 use Rattle.language.specs.declared.Table.{Table}
 use Rattle.language.specs.Limits.{linesLimit, dataLimit, omitLimit, processLimit}
-use Rattle.language.specs.Script.{Encode, unset, byte, Settings, Item, Script}
+use Rattle.language.specs.Script.{unset, byte, Item}
 use Rattle.language.specs.Meaning.{extension}
 use Rattle.language.specs.Listing.{listedLines}
-use Rattle.language.specs.Table.{padded, wordsFrom, poolOf, endsFrom, encodes, encodeByteOf, headsOf, laidOut, bodyFrom, lettersOf, settingsOf, scriptOf}
-use Rattle.accepted.specs.Tests.{zeros, wordsFit, wordsEnd, rising, lastEnd, endsOf, inUse, endsRight, cellsRight, settingsFit, firstEmpty, settingsIn, linesIn}
+use Rattle.language.specs.Table.{padded, wordsFrom, poolOf, encodes, encodeByteOf, headsOf, laidOut, bodyFrom, lettersOf, settingsOf, scriptOf}
+use Rattle.heads_fit.specs.Tests.{zeros, rising, lastEnd, endsOf, inUse, endsRight, settingsFit, firstEmpty, settingsIn}
+use Rattle.cells_fit.specs.Tests.{cellsFit, wordsFit, wordsEnd}
+use Rattle.accepted.specs.Tests.{cellsRight, linesIn}
 use Rattle.accepted.proofs.Exactly.{heads-equal, tables-equal}
 use Rattle.accepted.proofs.Bodies.{Body, body}
 use Rattle.accepted.proofs.Counting.{settings-length, items-count, ends-count, lines-count}
@@ -108,7 +110,7 @@ module _ (t : Table) (ty : Typed t) where
     ends-zero = both-right (rising 0 (endsOf h)) _ (both-right (leb (h .processes) processLimit) _ (both-right (leb 1 (h .processes)) _ er))
 
     words-fit : wordsFit (t .pool) 0 (take (inUse h) (t .cells)) ≡ true
-    unfolding cellsRight
+    unfolding cellsFit
     words-fit = both-left (wordsFit (t .pool) 0 (take (inUse h) (t .cells))) _ cr
 
     pub whole : Body (t .pool) (t .cells) 0 0 (endsOf h)
@@ -121,27 +123,27 @@ module _ (t : Table) (ty : Typed t) where
     -- ---- the whole
 
     laid-cells : padded linesLimit (wordsFrom 0 (scriptOf t .body)) ≡ t .cells
-    unfolding scriptOf cellsRight
+    unfolding scriptOf cellsFit
     laid-cells =
         let z = both-left (zeros (drop (inUse h) (t .cells))) _ (both-right (wordsFit (t .pool) 0 (take (inUse h) (t .cells))) _ cr) in
         let few : inUse h ≤ linesLimit = last-few (endsOf h) 0 ends-rise (omega arith) in
         rw (whole .walk .words) (pad-take (inUse h) linesLimit (t .cells) (ty .cells) few z)
 
     pub used-is : h .used ≡ length (poolOf (scriptOf t .body))
-    unfolding scriptOf cellsRight
+    unfolding scriptOf cellsFit
     used-is =
         let r = both-right (zeros (drop (inUse h) (t .cells))) _ (both-right (wordsFit (t .pool) 0 (take (inUse h) (t .cells))) _ cr) in
         let e = eqb-true (h .used) (wordsEnd 0 (take (inUse h) (t .cells))) (both-left (eqb (h .used) (wordsEnd 0 (take (inUse h) (t .cells)))) _ r) in
         omega (arith, e, whole .walk .size)
 
     pub used-few : h .used ≤ dataLimit
-    unfolding cellsRight
+    unfolding cellsFit
     used-few =
         let r = both-right (zeros (drop (inUse h) (t .cells))) _ (both-right (wordsFit (t .pool) 0 (take (inUse h) (t .cells))) _ cr) in
         leb-true (h .used) dataLimit (both-left (leb (h .used) dataLimit) _ (both-right (eqb (h .used) (wordsEnd 0 (take (inUse h) (t .cells)))) _ r))
 
     laid-pool : padded dataLimit (poolOf (scriptOf t .body)) ≡ t .pool
-    unfolding scriptOf cellsRight
+    unfolding scriptOf cellsFit
     laid-pool =
         let r = both-right (zeros (drop (inUse h) (t .cells))) _ (both-right (wordsFit (t .pool) 0 (take (inUse h) (t .cells))) _ cr) in
         let q = both-right (eqb (h .used) (wordsEnd 0 (take (inUse h) (t .cells)))) _ r in

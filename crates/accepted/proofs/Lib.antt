@@ -5,8 +5,4 @@ pub mod Counting
 pub mod Laying
 pub mod Laid
 pub mod Passing
-pub mod Each
-pub mod Reaching
-pub mod Data
-pub mod Extension
 pub mod Accepting

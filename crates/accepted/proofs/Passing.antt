@@ -1,29 +1,28 @@
 -- THE TESTS DECIDE: the tests that the code goes through are the exact test of a table. Assumes nothing.
-use Prim.Native.Nat.{ℕ, zero, suc, _+_, _-_, _≤_, _<_}
+use Prim.Native.Nat.{ℕ, zero, suc, _-_, _≤_, _<_}
 use mathlib.Core.Path.{_≡_, refl, sym, ap, _∙_}
-use mathlib.Core.Bool.{Bool, true, false, cond, _&&_}
+use mathlib.Core.Bool.{Bool, true, false, cond}
 use mathlib.Core.List.{List, [], _∷_}
 use native.Mathlib.Omega.{arith}
-use lib.Dec.{ltb, leb, eqb}
+use lib.Dec.{leb, eqb}
 use lib.ListN.{length, take, drop, length-take}
 use borrow.Author.Tests.{leb-true, le-leb, lt-ltb}
 use Rattle.reader.specs.Bytes.{all}
-use Rattle.reader.proofs.Tests.{both-left, both-right, both, true-is-false}
+use Rattle.reader.proofs.Tests.{both-left, both-right, both}
 use Rattle.language.specs.declared.Heads.{Heads}
 use Rattle.language.specs.declared.Table.{Table}
 use Rattle.language.specs.Limits.{linesLimit, dataLimit, omitLimit, processLimit}
-use Rattle.language.specs.Script.{Encode, unset, byte, Settings, Script, processes}
+use Rattle.language.specs.Script.{unset, byte, Script, processes}
 use Rattle.language.specs.Stretch.{stretchOf}
 use Rattle.language.specs.Meaning.{extension}
-use Rattle.language.specs.Listing.{listedLines}
 use Rattle.language.specs.Right.{isByte, encodeRight, settingsRight, allRight, dataIn, nextsIn, nests, allBelow, scriptRight}
-use Rattle.language.specs.Table.{poolOf, headsOf, laidOut, bodyFrom, lettersOf, settingsOf, scriptOf}
+use Rattle.language.specs.Table.{headsOf, laidOut, bodyFrom, lettersOf, settingsOf, scriptOf}
 use Rattle.language.proofs.Good.{Good, good}
 use Rattle.language.proofs.Tables.{pool-length}
-use Rattle.stretch.specs.Measured.{measured, isLargest}
 use Rattle.stretch.proofs.Verdicts.{measured-right}
 use Rattle.accepted.specs.Accepted.{tableRight}
-use Rattle.accepted.specs.Tests.{zeros, endsOf, endsRight, cellsRight, settingsFit, linesIn, fits, passes}
+use Rattle.heads_fit.specs.Tests.{zeros, endsOf, endsRight, settingsFit}
+use Rattle.accepted.specs.Tests.{cellsRight, linesIn, fits, passes}
 use Rattle.accepted.proofs.Exactly.{laid-out, script-right, laid-right}
 use Rattle.accepted.proofs.Counting.{ends-count}
 use Rattle.accepted.proofs.Laying.{Typed, processes-some, processes-few, whole, used-is, used-few, ends-long, laid, lines-are}

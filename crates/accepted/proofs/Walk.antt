@@ -1,14 +1,14 @@
 -- One pass over the words of a table: words that fit are those of the statements read from them. Assumes nothing.
 use Prim.Native.Nat.{ℕ, zero, suc, _+_, _-_, _≤_}
 use mathlib.Core.Path.{_≡_, refl, sym, ap, ap₂, _∙_}
-use mathlib.Core.Bool.{Bool, true, false, _&&_, not}
+use mathlib.Core.Bool.{true, not}
 use mathlib.Core.List.{List, [], _∷_, _++_, append-assoc}
-use mathlib.Core.Logic.{_⊎_, inl, inr, ⊎-elim}
+use mathlib.Core.Logic.{_⊎_, ⊎-elim}
 use native.Mathlib.Omega.{arith}
-use lib.Dec.{ltb, leb, eqb}
+use lib.Dec.{leb, eqb}
 use lib.ListN.{length, take, drop, length-append, take-append-drop, length-take, length-drop}
-use lib.Seq.{take-add, drop-drop}
-use borrow.Author.Tests.{eqb-true, eq-eqb, leb-true}
+use lib.Seq.{drop-drop}
+use borrow.Author.Tests.{eqb-true, leb-true}
 use Rattle.reader.specs.Bytes.{same}
 use Rattle.reader.proofs.Tests.{both-left, both-right, both, true-is-false}
 use Rattle.language.specs.declared.Span.{Span}
@@ -17,13 +17,13 @@ use Rattle.language.specs.declared.Cell.{Cell}
 use Rattle.language.specs.declared.Cell.the-variants.{Nothing, Send, Loop, End, WaitTime, WaitData, WaitByte, WaitClock, WaitSignal, Rts, Log, Fchange, Pause, Resume, Nop, Unknown}
 use Rattle.language.specs.Limits.{dataLimit, sendRoom, waitRoom, logRoom}
 use Rattle.language.specs.Clock.{range, within}
-use Rattle.language.specs.Script.{Statement, Item, does, next, dataOf}
-use Rattle.language.specs.Right.{dataRight, inRanges, clockRight, logRight, right, allRight}
+use Rattle.language.specs.Script.{Item, dataOf}
+use Rattle.language.specs.Right.{inRanges, clockRight, right, allRight}
 use Rattle.language.specs.Cell.{span, clock, coded, decoded, spanRight, unitRight, fixedRight, cellRight, clockFrom, fixedUnits}
 use Rattle.language.specs.Table.{dataAt, cellFor, wordsFrom, poolOf, statementOf, itemsOf}
 use Rattle.language.proofs.Tables.{both-map}
 use Rattle.language.proofs.Cells.{span-fits, code-decode}
-use Rattle.accepted.specs.Tests.{follows, cellFits, bytesIn, wordsFit, wordsEnd}
+use Rattle.cells_fit.specs.Tests.{follows, cellFits, bytesIn, wordsFit, wordsEnd}
 
 -- ---- clock values
 

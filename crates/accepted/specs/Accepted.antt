@@ -1,8 +1,6 @@
 -- "no accepted script has this table" (25 for start and lister), as a test that computes: the table is the one that the script read
 -- from it is laid out in, and that script is one that some text has.
-use Prim.Native.Nat.{ℕ}
 use mathlib.Core.Bool.{Bool, true, false, _&&_}
-use mathlib.Core.List.{List}
 use lib.Dec.{eqb}
 use Rattle.reader.specs.Bytes.{same}
 use Rattle.language.specs.declared.Heads.{Heads}

@@ -5,7 +5,7 @@ use mathlib.Core.Bool.{Bool}
 use mathlib.Core.List.{List, _++_}
 use lib.ListN.{length, getD}
 use Rattle.language.specs.declared.Heads.{Heads}
-use Rattle.accepted.specs.Tests.{endsOf, firstEmpty}
+use Rattle.heads_fit.specs.Tests.{endsOf, firstEmpty}
 use Rattle.lister.specs.Printed.{Within, Printed, printedCells, printedFirst, printedBody}
 use Rattle.lister.proofs.Printing.{printed-is, printed-more, room-is, first-room, then-room}
 use Rattle.lister.proofs.Lining.{others, body-parts}

@@ -14,7 +14,7 @@ use Rattle.language.specs.Script.{Statement, Item, does, next}
 use Rattle.language.specs.Listing.{lineFor, itemLine, itemLines, bodyLines, joined}
 use Rattle.language.specs.Cell.{decoded}
 use Rattle.language.specs.Table.{statementOf, itemsOf, bodyFrom}
-use Rattle.accepted.specs.Tests.{endsOf, firstEmpty}
+use Rattle.heads_fit.specs.Tests.{endsOf, firstEmpty}
 use Rattle.lister.specs.Printed.{ended, wordLine, printedItems, printedCells, further, printedFirst, printedBody}
 
 pub joined-append : (a b : List (List ℕ)) → joined (a ++ b) ≡ joined a ++ joined b

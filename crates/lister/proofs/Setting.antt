@@ -13,8 +13,8 @@ use Rattle.language.specs.declared.Table.{Table}
 use Rattle.language.specs.Script.{unset, byte}
 use Rattle.language.specs.Listing.{when, encodeLines, settingLines, listedLines, joined, listing}
 use Rattle.language.specs.Table.{lettersOf, settingsOf, scriptOf}
-use Rattle.accepted.specs.Tests.{endsOf}
-use Rattle.accepted.proofs.Extension.{letters-first, letters-count}
+use Rattle.heads_fit.specs.Tests.{endsOf}
+use Rattle.heads_fit.proofs.Extension.{letters-first, letters-count}
 use Rattle.lister.specs.Printed.{Within, Printed, ended, printedSettings, printedBody}
 use Rattle.lister.specs.Listed.{listingOf}
 use Rattle.lister.proofs.Printing.{printed-is, printed-more, room-is, first-room, then-room}

@@ -10,7 +10,7 @@ use Rattle.language.specs.declared.Cell.the-variants.{WaitSignal}
 use Rattle.language.specs.Listing.{lineFor}
 use Rattle.language.specs.Cell.{decoded, cellRight}
 use Rattle.language.specs.Table.{statementOf}
-use Rattle.accepted.proofs.Reaching.{known-cell}
+use Rattle.cells_fit.proofs.Reaching.{known-cell}
 use Rattle.lister.specs.Printed.{Within, Printed, wordLine}
 use Rattle.lister.proofs.Printing.{printed-is}
 

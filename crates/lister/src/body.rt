@@ -3,7 +3,7 @@ ghost use mathlib.Core.Path.{_≡_};
 ghost use mathlib.Core.List.{_∷_, []};
 ghost use lib.ListN.{drop, take};
 ghost use Rattle.language.specs.Script.{next};
-ghost use Rattle.accepted.specs.Tests.{endsOf};
+ghost use Rattle.heads_fit.specs.Tests.{endsOf};
 ghost use Rattle.lister.specs.Printed.{Within, Printed, printedItems, printedCells, further, printedFirst, printedBody};
 use super::statements::line;
 use super::text::put;

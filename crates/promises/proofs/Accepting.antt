@@ -40,7 +40,9 @@ use Rattle.stretch.proofs.Marking.{marks-between}
 use Rattle.stretch.proofs.Places.{measured-each}
 use Rattle.stretch.proofs.Verdicts.{Answers, measured-script, measured-right}
 use Rattle.accepted.specs.Accepted.{tableRight}
-use Rattle.accepted.specs.Tests.{zeros, wordsFit, wordsEnd, rising, endsOf, inUse, endsRight, cellsRight, settingsFit}
+use Rattle.heads_fit.specs.Tests.{zeros, rising, endsOf, inUse, endsRight, settingsFit}
+use Rattle.cells_fit.specs.Tests.{cellsFit, wordsFit, wordsEnd}
+use Rattle.accepted.specs.Tests.{cellsRight}
 use Rattle.accepted.proofs.Exactly.{script-of, laid-right}
 use Rattle.accepted.proofs.Laid.{laid-ends, laid-cells, laid-settings}
 use Rattle.promises.specs.Replies.{Compiles}
@@ -140,11 +142,11 @@ module _ (s : Script) (h : scriptRight stretchOf s ≡ true) where
   -- ---- the words
 
   fit : wordsFit (t .pool) 0 (take (inUse hs) (t .cells)) ≡ true
-  unfolding cellsRight
+  unfolding cellsFit
   fit = both-left (wordsFit (t .pool) 0 (take (inUse hs) (t .cells))) _ cr
 
   bytes-few : wordsEnd 0 (take (inUse hs) (t .cells)) ≤ dataLimit
-  unfolding cellsRight
+  unfolding cellsFit
   bytes-few =
       let e : ℕ = wordsEnd 0 (take (inUse hs) (t .cells)) in
       let r₁ = both-right (wordsFit (t .pool) 0 (take (inUse hs) (t .cells))) _ cr in

@@ -27,7 +27,7 @@ use Rattle.stretch.specs.Marks.{cellMark, wordMark, marksBetween}
 use Rattle.stretch.specs.Scan.{marksTo}
 use Rattle.stretch.proofs.Marking.{marks-between, marks-length}
 use Rattle.accepted.specs.Tests as tests
-use Rattle.accepted.specs.Tests.{follows, cellFits, wordsFit, wordsEnd}
+use Rattle.cells_fit.specs.Tests.{follows, cellFits, wordsFit, wordsEnd}
 use Rattle.process.specs.declared.Wait.{Wait}
 use Rattle.process.specs.declared.Wait.the-variants.{Ticks, Bytes, Data, ClockValue, Signal}
 use Rattle.process.specs.declared.Process.{Process}

@@ -10,7 +10,8 @@ use lib.Seq.{slice, take-take, getD-take}
 use borrow.Author.Tests.{leb-true}
 use Rattle.reader.proofs.Tests.{both-left, both-right}
 use Rattle.language.specs.Limits.{linesLimit, dataLimit}
-use Rattle.accepted.specs.Tests.{wordsFit, wordsEnd, rising, lastEnd}
+use Rattle.cells_fit.specs.Tests.{wordsFit, wordsEnd}
+use Rattle.heads_fit.specs.Tests.{rising, lastEnd}
 use Rattle.accepted.proofs.Bodies.{fit-append, end-append, last-rises}
 use Rattle.promises.proofs.Joining.{end-rises}
 use Rattle.promises.proofs.Moves.{Fits}

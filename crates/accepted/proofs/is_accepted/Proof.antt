@@ -29,17 +29,18 @@ cells-in-use-requires c κs = search needs
 enum-known-reach : tie.Need-enum-known-reach
 enum-known-reach c = search needs
 
+cast-cells-right : tie.Need-cast-cells-right
+cast-cells-right c = search needs
+
 cells-right-requires : tie.Need-cells-right-requires
-cells-right-requires c κs =
-    let u = c .before .before .before in
-    in-use-is _ (u .cells-in-use .ensures) (c .before .reach .given .1)
+cells-right-requires c κs = search needs
 
 settings-fit-requires : tie.Need-settings-fit-requires
 settings-fit-requires c κs = search needs
 
 lines-requires : tie.Need-lines-requires
 lines-requires c κs =
-    let k = c .before .before .before .before in
+    let k = c .before .before .before .before .before in
     let u = k .before .before .before in
     let e = u .cells-in-use .ensures in
     let to = k .before .reach .given .1 in
@@ -60,7 +61,7 @@ enum-told-3 c = search needs
 returns : tie.Need-returns
 returns c =
     let l = c .before .before .before .before in
-    let k = l .before .before .before .before .before in
+    let k = l .before .before .before .before .before .before in
     let u = k .before .before .before in
     let s = u .before in
     as-measured _ (typed s) (bytes (s .before .before)) (u .cells-in-use .ensures) (k .before .reach .given .1) (l .before .before .before .before .cells-right .ensures) (l .before .before .before .if1 .taken) (l .before .before .settings-fit .ensures) (l .before .if2 .taken) (l .lines .ensures) (c .before .before .before .if3 .taken) (c .before .before .largest .ensures .0) (c .enum-told .given .1) refl
@@ -68,7 +69,7 @@ returns c =
 returns-2 : tie.Need-returns-2
 returns-2 c =
     let l = c .before .before .before .before in
-    let k = l .before .before .before .before .before in
+    let k = l .before .before .before .before .before .before in
     let u = k .before .before .before in
     let s = u .before in
     as-measured _ (typed s) (bytes (s .before .before)) (u .cells-in-use .ensures) (k .before .reach .given .1) (l .before .before .before .before .cells-right .ensures) (l .before .before .before .if1 .taken) (l .before .before .settings-fit .ensures) (l .before .if2 .taken) (l .lines .ensures) (c .before .before .before .if3 .taken) (c .before .before .largest .ensures .0) (c .enum-told2 .given .1) refl
@@ -76,7 +77,7 @@ returns-2 c =
 returns-3 : tie.Need-returns-3
 returns-3 c =
     let l = c .before .before .before .before in
-    let k = l .before .before .before .before .before in
+    let k = l .before .before .before .before .before .before in
     let u = k .before .before .before in
     let s = u .before in
     as-measured _ (typed s) (bytes (s .before .before)) (u .cells-in-use .ensures) (k .before .reach .given .1) (l .before .before .before .before .cells-right .ensures) (l .before .before .before .if1 .taken) (l .before .before .settings-fit .ensures) (l .before .if2 .taken) (l .lines .ensures) (c .before .before .before .if3 .taken) (c .before .before .largest .ensures .0) (c .enum-told3 .given .1) refl
@@ -87,7 +88,7 @@ enum-told-4 c = search needs
 returns-4 : tie.Need-returns-4
 returns-4 c =
     let l = c .before in
-    let k = l .before .before .before .before .before in
+    let k = l .before .before .before .before .before .before in
     let u = k .before .before .before in
     let s = u .before in
     not-lines _ (typed s) (bytes (s .before .before)) (u .cells-in-use .ensures) (k .before .reach .given .1) (l .before .before .before .before .cells-right .ensures) (l .before .before .before .if1 .taken) (l .before .before .settings-fit .ensures) (l .before .if2 .taken) (l .lines .ensures) (c .if3 .left)
@@ -95,14 +96,14 @@ returns-4 c =
 returns-5 : tie.Need-returns-5
 returns-5 c =
     let f = c .before in
-    let k = f .before .before .before in
+    let k = f .before .before .before .before in
     let u = k .before .before .before in
     let s = u .before in
     not-settings _ (typed s) (bytes (s .before .before)) (u .cells-in-use .ensures) (k .before .reach .given .1) (f .before .before .cells-right .ensures) (f .before .if1 .taken) (f .settings-fit .ensures) (c .if2 .left)
 
 returns-6 : tie.Need-returns-6
 returns-6 c =
-    let k = c .before .before in
+    let k = c .before .before .before in
     let u = k .before .before .before in
     let s = u .before in
     not-cells _ (typed s) (bytes (s .before .before)) (u .cells-in-use .ensures) (k .before .reach .given .1) (c .before .cells-right .ensures) (c .if1 .left)
@@ -119,6 +120,7 @@ is-accepted-spec =
     (tie.spec
     cells-in-use-requires
     enum-known-reach
+    cast-cells-right
     cells-right-requires
     settings-fit-requires
     lines-requires

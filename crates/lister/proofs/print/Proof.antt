@@ -1,7 +1,7 @@
 -- `lister::print` meets its contract. Assumes nothing.
 use denote.Ref.{now}
 use Rattle.language.specs.declared.Table.{Table}
-use Rattle.accepted.specs.Tests.{endsOf}
+use Rattle.heads_fit.specs.Tests.{endsOf}
 use Rattle.lister.specs.Printed.{printedSettings, printedBody}
 use Rattle.lister.proofs.Printing.{printed-is, printed-more, room-is, first-room, then-room}
 use Rattle.lister.proofs.Setting.{listing-parts}

@@ -5,7 +5,7 @@ use denote.Ref.{now}
 use lib.ListN.{length, drop}
 use Rattle.reader.specs.Bytes.{all}
 use Rattle.language.specs.Listing.{isPlain}
-use Rattle.accepted.proofs.Each.{each-past, each-not, each-end}
+use Rattle.heads_fit.proofs.Each.{each-past, each-not, each-end}
 use Rattle.lister.proofs.Texts.{too-low, too-high, is-plain}
 use borrow.Author.Needs.{needs}
 use Rattle.lister.proofs.lines.all_plain.Statement.{statement}

@@ -6,7 +6,7 @@ use denote.Ref.{now}
 use Rattle.language.specs.declared.Cell.{Cell}
 use Rattle.language.specs.Listing.{lineFor}
 use Rattle.language.specs.Table.{statementOf}
-use Rattle.accepted.proofs.Reaching.{sent-inside, waited-inside, logged-inside}
+use Rattle.cells_fit.proofs.Reaching.{sent-inside, waited-inside, logged-inside}
 use Rattle.lister.specs.Printed.{Within, Printed, wordLine}
 use Rattle.lister.proofs.Stating.{word-room, word-printed, signal-few}
 use borrow.Author.Needs.{needs}

@@ -1,0 +1,24 @@
+-- `cells_fit::log_right` meets its contract. Assumes nothing.
+use Rattle.cells_fit.proofs.Data.{log-long, log-unsigned, log-signed}
+use borrow.Author.Needs.{needs}
+use Rattle.cells_fit.proofs.log_right.Statement.{statement}
+use Rattle.cells_fit.proofs.log_right.Tie as tie
+
+returns : tie.Need-returns
+returns c = log-long _ (c .if1 .taken)
+
+right-signs-requires : tie.Need-right-signs-requires
+right-signs-requires c κs = search needs
+
+in-line-requires : tie.Need-in-line-requires
+in-line-requires c κs = search needs
+
+returns-2 : tie.Need-returns-2
+returns-2 c = log-signed _ (c .before .before .before .if1 .left) (c .before .before .right-signs .ensures) (c .before .if2 .taken) (c .in-line .ensures)
+
+returns-3 : tie.Need-returns-3
+returns-3 c = log-unsigned _ (c .before .before .if1 .left) (c .before .right-signs .ensures) (c .if2 .left)
+
+pub log-right-spec : {M : Type 1} → statement M
+log-right-spec =
+    tie.close (tie.spec returns right-signs-requires in-line-requires returns-2 returns-3)

@@ -1,0 +1,4 @@
+pub mod Each
+pub mod Extension
+pub mod Reaching
+pub mod Setting
