@@ -9,10 +9,10 @@ use lib.ListN.{length, getD, drop, drop-of-length-le}
 use lib.Seq.{drop-cons}
 use borrow.Author.Tests.{eq-eqb, ne-eqb}
 use Rattle.reader.specs.Number.{moved}
-use Rattle.reader.specs.Hex.{hexByteAt}
+use Rattle.hex.specs.Hex.{hexByteAt}
 use Rattle.reader.specs.declared.Number.{Number}
 use Rattle.reader.specs.declared.Number.the-variants.{Value, Bad}
-use Rattle.reader.proofs.Moved.{hex-byte-at-moved}
+use Rattle.hex.proofs.Moved.{hex-byte-at-moved}
 use Rattle.language.specs.Script.{setEncode, fault}
 use Rattle.language.specs.declared.Fault.the-variants.{BadRest}
 use Rattle.language.specs.Meaning.{encodeOf, encodeHex, encodeByte}

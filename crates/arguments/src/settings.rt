@@ -9,7 +9,7 @@ use super::spelling::is_capital;
 use language::Cell;
 use language::Fault;
 use reader::Number;
-use reader::hex::hex_byte;
+use hex::hex_byte;
 
 // RTS: ON or OFF.
 pub fn rts(argument: &[u8]) -> Line

@@ -10,7 +10,7 @@ use lib.Seq.{drop-cons, drop-drop}
 use borrow.Author.Tests.{leb-true, eq-eqb, ne-eqb}
 use Rattle.reader.specs.Bytes.{same}
 use Rattle.reader.specs.Number.{pairAt, moved}
-use Rattle.reader.specs.Hex.{Said, good, bad, before}
+use Rattle.hex.specs.Hex.{Said, before, good, bad}
 use Rattle.reader.specs.declared.Number.{Number}
 use Rattle.reader.specs.declared.Number.the-variants.{Value, Bad}
 use Rattle.reader.proofs.Moved.{pair-at-moved}

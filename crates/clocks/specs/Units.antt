@@ -3,7 +3,7 @@ use Prim.Native.Nat.{ℕ}
 use mathlib.Core.List.{List, [], _∷_}
 use lib.ListN.{getD}
 use Rattle.reader.specs.Number.{pairAt, moved}
-use Rattle.reader.specs.Hex.{Said, good, bad}
+use Rattle.hex.specs.Hex.{Said, good, bad}
 use Rattle.reader.specs.declared.Number.{Number}
 use Rattle.reader.specs.declared.Number.the-variants as Number
 use Rattle.language.specs.declared.Clock.{Clock}

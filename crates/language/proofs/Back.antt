@@ -14,7 +14,7 @@ use Rattle.reader.specs.Ascii.{ascii}
 use Rattle.reader.specs.Bytes.{digitOf, isBlank, all, same}
 use Rattle.words.specs.Words.{skip, beforeEnd, trimEnd, argument, wordOf, afterWord}
 use Rattle.reader.specs.Number.{numberAt}
-use Rattle.reader.specs.Hex.{good, hexAt}
+use Rattle.hex.specs.Hex.{good, hexAt}
 use Rattle.writer.specs.Hex.{hexText}
 use Rattle.writer.specs.Put.{widthOf, decimal}
 use Rattle.reader.specs.declared.Number.the-variants.{Value}
@@ -22,7 +22,8 @@ use Rattle.reader.proofs.Tests.{both-left, both-right, true-is-false, Every}
 use Rattle.reader.proofs.Solid.{solid-append}
 use Rattle.words.proofs.Solid.{argument-solid}
 use Rattle.writer.proofs.Decimals.{decimal-length, decimal-some, decimal-few, decimal-low, decimal-solid}
-use Rattle.writer.proofs.Back.{Stops, number-back, hex-back}
+use Rattle.writer.proofs.Back.{Stops, number-back}
+use Rattle.language.proofs.Hexes.{hex-back}
 use Rattle.language.specs.Limits.{sendRoom, waitRoom, logRoom}
 use Rattle.language.specs.Clock.{clockOf, clockText}
 use Rattle.language.specs.Script.{Statement, send, loop, end, waitTime, waitData, waitByte, waitClock, waitSignal, rts, log, fchange, pause, resume, nop, says}

@@ -4,6 +4,7 @@ pub mod Tables
 pub mod Examples
 pub mod Bytes
 pub mod Clocks
+pub mod Hexes
 pub mod Back
 pub mod Cutting
 pub mod Room

@@ -4,8 +4,8 @@ use Prim.Native.Nat.{ℕ}
 use Rattle.reader.specs.Bytes.{isBlank, digitOf, same}
 use Rattle.words.specs.Words.{skip, wordOf, afterWord, beforeEnd, trimEnd, argument}
 use Rattle.reader.specs.Number.{ended, numberGo, numberAt, secondOf, pairOf, pairAt}
-use Rattle.reader.specs.Hex as hex
-use Rattle.reader.specs.Hex.{stepOf, hexGo, hexAt, hexSecond, hexByteOf, hexByteAt}
+use Rattle.hex.specs.Hex as hex
+use Rattle.hex.specs.Hex.{stepOf, hexGo, hexAt, hexSecond, hexByteOf, hexByteAt}
 use Rattle.writer.specs.Hex.{capital, hexText}
 use Rattle.writer.specs.Put.{fixed, widthGo, widthOf, decimal, twoDigits}
 use Rattle.figures.specs.Flat as flat

@@ -10,11 +10,11 @@ use lib.ListN.{length, drop}
 use borrow.Author.Tests.{ltb-true, lt-ltb, leb-true}
 use Rattle.reader.specs.Bytes.{digitOf, isBlank, all, same}
 use Rattle.reader.specs.Number.{ended, numberGo, numberAt, secondOf, pairOf, pairAt}
-use Rattle.reader.specs.Hex.{Said, good, bad, before, stepOf, after, hexGo, hexAt, hexSecond, hexByteOf, hexByteAt}
+use Rattle.hex.specs.Hex.{Said, before, stepOf, after, hexGo, hexAt, hexSecond, hexByteOf, hexByteAt, good, bad}
 use Rattle.reader.specs.declared.Number.{Number}
 use Rattle.reader.specs.declared.Number.the-variants.{Value, Bad}
-use Rattle.reader.specs.declared.HexStep.{HexStep}
-use Rattle.reader.specs.declared.HexStep.the-variants.{Refuse, Skip, First, Whole}
+use Rattle.hex.specs.declared.HexStep.{HexStep}
+use Rattle.hex.specs.declared.HexStep.the-variants.{Refuse, Skip, First, Whole}
 use Rattle.reader.proofs.Tests.{both, both-right, by-cases}
 use Rattle.language.specs.Clock.{Range, within, valueBefore, fill, from, clockOf, secondOn, minuteOn, hourOn, dayOn}
 use Rattle.language.specs.Right.{isByte, inRanges, clockRight}

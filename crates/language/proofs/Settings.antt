@@ -10,7 +10,7 @@ use borrow.Author.Tests.{lt-ltb, leb-true, lt-leb}
 use Rattle.reader.specs.Ascii.{ascii}
 use Rattle.reader.specs.Bytes.{all}
 use Rattle.words.specs.Words.{beforeEnd, trimEnd, argument}
-use Rattle.reader.specs.Hex.{hexAt, hexByteAt, hexByteOf, hexSecond}
+use Rattle.hex.specs.Hex.{hexAt, hexByteAt, hexByteOf, hexSecond}
 use Rattle.writer.specs.Hex.{hexText}
 use Rattle.reader.proofs.Tests.{both-left, both-right, Every, every-of}
 use Rattle.reader.proofs.Solid.{Shown, Solid}

@@ -7,7 +7,7 @@ use lib.ListN.{drop}
 use lib.Dec.{leb, eqb}
 use Rattle.reader.specs.Bytes.{same}
 use Rattle.reader.specs.Number.{pairAt}
-use Rattle.reader.specs.Hex.{Said, good, bad, before}
+use Rattle.hex.specs.Hex.{Said, before, good, bad}
 use Rattle.writer.specs.Put.{twoDigits}
 use Rattle.reader.specs.declared.Number.{Number}
 use Rattle.reader.specs.declared.Number.the-variants.{Value, Bad}

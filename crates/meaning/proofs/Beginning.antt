@@ -10,7 +10,7 @@ use lib.Seq.{sets}
 use borrow.Author.Tests.{lt-ltb, le-ltb, ne-eqb}
 use Rattle.reader.specs.Bytes.{isBlank, all}
 use Rattle.words.specs.Words.{wordOf, afterWord}
-use Rattle.reader.specs.Hex.{hexAt}
+use Rattle.hex.specs.Hex.{hexAt}
 use Rattle.reader.proofs.Tests.{by-cases}
 use Rattle.language.specs.declared.Fault.the-variants.{LineTooLong, NoSuchName}
 use Rattle.language.specs.Script.{Meaning, comment, blank, says, send, fault}

@@ -8,7 +8,7 @@ use lib.ListN.{length, drop}
 use Rattle.reader.specs.Ascii.{ascii}
 use Rattle.reader.specs.Bytes.{isBlank, all, same}
 use Rattle.reader.specs.Number.{numberAt}
-use Rattle.reader.specs.Hex.{Said, good, bad, hexByteAt}
+use Rattle.hex.specs.Hex.{Said, hexByteAt, good, bad}
 use Rattle.reader.specs.declared.Number.{Number}
 use Rattle.reader.specs.declared.Number.the-variants.{Value, Bad}
 use Rattle.reader.proofs.Tests.{by-cases}

@@ -8,9 +8,9 @@ use lib.Dec.{eqb}
 use lib.ListN.{length, take, drop, getD, length-drop}
 use lib.Seq.{sets}
 use borrow.Author.Tests.{le-leb, eq-eqb, ne-eqb}
-use Rattle.reader.specs.Hex.{Said, good, bad, hexAt, bytesOf, hexInto, hexPut}
+use Rattle.hex.specs.Hex.{Said, hexAt, bytesOf, hexInto, hexPut, good, bad}
 use Rattle.writer.specs.Put.{putInto}
-use Rattle.reader.specs.declared.HexRead.the-variants.{Bytes, Wrong, Full}
+use Rattle.hex.specs.declared.HexRead.the-variants.{Bytes, Wrong, Full}
 use Rattle.language.specs.declared.Fault.the-variants.{BadRest}
 use Rattle.language.specs.declared.Cell.the-variants.{Send, WaitData, Log}
 use Rattle.language.specs.Cell.{span}

@@ -1,6 +1,6 @@
 -- What the small functions of the code answer.
 use lib.ListN.{length}
-use Rattle.reader.specs.Hex.{Said, good, bad}
+use Rattle.hex.specs.Hex.{Said, good, bad}
 use Rattle.meaning.specs.declared.Found.{Found}
 use Rattle.meaning.specs.declared.Found.the-variants as Found
 

@@ -4,7 +4,7 @@ use mathlib.Core.Path.{_≡_}
 use mathlib.Core.List.{List}
 use lib.ListN.{length}
 use lib.Seq.{sets}
-use Rattle.reader.specs.Hex.{Said, bytesOf}
+use Rattle.hex.specs.Hex.{Said, bytesOf}
 use Rattle.language.specs.Script.{Meaning}
 use Rattle.arguments.specs.declared.Line.{Line}
 use Rattle.meaning.specs.declared.Found.{Found}

@@ -6,10 +6,9 @@ use mathlib.Core.List.{List, [], _∷_}
 use Prim.Native.Nat.{ℕ}
 use Rattle.reader.specs.Ascii.{ascii}
 use Rattle.language.specs.declared.Table.{Table}
-use Rattle.language.specs.Right.{isByte}
+use Rattle.language.specs.Right.{isByte, timeRight}
 use Rattle.language.specs.Cell.{coded, cellOf, decoded}
 use Rattle.language.specs.Table.{cellFor, wordsFrom, poolOf, endsFrom, headsOf, laidOut}
-use Rattle.language.specs.Right.{timeRight}
 use Rattle.language.specs.Answer.{answered, compiled}
 use Rattle.language.proofs.Opened.{printed}
 use Rattle.accepted.specs.Accepted.{tableRight}

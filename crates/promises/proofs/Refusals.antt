@@ -8,8 +8,8 @@ use lib.Dec.{leb}
 use lib.ListN.{length}
 use lib.Seq.{sets}
 use Rattle.reader.proofs.Tests.{true-is-false}
-use Rattle.reader.specs.declared.HexRead.the-variants.{Bytes, Full, Wrong}
-use Rattle.reader.specs.Hex.{Said, good, bad, hexInto, hexPut}
+use Rattle.hex.specs.declared.HexRead.the-variants.{Bytes, Full, Wrong}
+use Rattle.hex.specs.Hex.{Said, hexInto, hexPut, good, bad}
 use Rattle.writer.specs.declared.Put.the-variants.{Next, NoRoom}
 use Rattle.writer.specs.Put.{putAnswer, putInto}
 use Rattle.language.specs.declared.Table.{Table}

@@ -6,8 +6,8 @@ use mathlib.Core.List.{List}
 use mathlib.Core.Logic.{_⊎_}
 use Prim.Native.Nat.{ℕ, _≤_, _<_}
 use lib.ListN.{length}
-use Rattle.reader.specs.declared.HexRead.the-variants.{Full, Wrong}
-use Rattle.reader.specs.Hex.{Said, hexInto, hexPut}
+use Rattle.hex.specs.declared.HexRead.the-variants.{Full, Wrong}
+use Rattle.hex.specs.Hex.{Said, hexInto, hexPut}
 use Rattle.writer.specs.declared.Put.the-variants.{NoRoom}
 use Rattle.writer.specs.Put.{putAnswer, putInto}
 use Rattle.language.specs.declared.Table.{Table}

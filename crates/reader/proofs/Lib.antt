@@ -10,4 +10,3 @@ pub mod Final
 pub mod Reading
 pub mod Placing
 pub mod Pairs
-pub mod Stepping

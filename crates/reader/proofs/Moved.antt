@@ -8,18 +8,15 @@ use lib.Dec.{ltb, leb}
 use lib.ListN.{drop}
 use Rattle.reader.specs.Bytes.{digitOf}
 use Rattle.reader.specs.Number.{ended, numberGo, numberAt, secondOf, pairOf, pairAt, moved}
-use Rattle.reader.specs.Hex.{Said, good, bad, stepOf, before, after, hexGo, hexAt, movedSaid, hexSecond, hexByteOf, hexByteAt}
 use Rattle.reader.specs.declared.Number.the-variants.{Value}
-use Rattle.reader.specs.declared.HexStep.{HexStep}
-use Rattle.reader.specs.declared.HexStep.the-variants.{Refuse, Skip, First, Whole}
 
 -- a choice of two answers moves with both
-both-moved : {A : Type 0} (m : A → A) (t : Bool) {x y x′ y′ : A} → x ≡ m x′ → y ≡ m y′ → cond t x y ≡ m (cond t x′ y′)
+pub both-moved : {A : Type 0} (m : A → A) (t : Bool) {x y x′ y′ : A} → x ≡ m x′ → y ≡ m y′ → cond t x y ≡ m (cond t x′ y′)
 both-moved m true p q = p
 both-moved m false p q = q
 
 -- one place on
-next : (k at : ℕ) → k + at + 1 ≡ k + (at + 1)
+pub next : (k at : ℕ) → k + at + 1 ≡ k + (at + 1)
 next k at = add-assoc k at 1
 
 ended-moved : (n v k at : ℕ) → ended n v (k + at) ≡ moved k (ended n v at)
@@ -55,42 +52,10 @@ pair-moved low high (a ∷ rest) k at =
     (ap (secondOf low high d rest) (next k at) ∙ second-moved low high d rest k (at + 1))
     refl
 
-hex-second-moved : (h : ℕ) (l : List ℕ) (k at : ℕ) → hexSecond h l (k + at) ≡ moved k (hexSecond h l at)
-unfolding hexSecond moved
-hex-second-moved h [] k at = refl
-hex-second-moved h (b ∷ rest) k at = both-moved (moved k) (ltb (digitOf b) 16) (ap (Value (h * 16 + digitOf b)) (next k at)) refl
-
-pub hex-byte-moved : (l : List ℕ) (k at : ℕ) → hexByteOf l (k + at) ≡ moved k (hexByteOf l at)
-unfolding hexByteOf moved
-hex-byte-moved [] k at = refl
-hex-byte-moved (a ∷ rest) k at =
-    both-moved (moved k) (ltb (digitOf a) 16) (ap (hexSecond (digitOf a) rest) (next k at) ∙ hex-second-moved (digitOf a) rest k (at + 1)) refl
-
--- ---- hex data
-
-before-moved : (k b : ℕ) (x : Said) → before b (movedSaid k x) ≡ movedSaid k (before b x)
-unfolding before movedSaid
-before-moved k b (good bs) = refl
-before-moved k b (bad at) = refl
-
-after-moved : (k at : ℕ) (st : HexStep) {f : ℕ → Said} (g : ℕ → Said) → ((h : ℕ) → f h ≡ movedSaid k (g h))
-    → after (k + at) st (f 16) f ≡ movedSaid k (after at st (g 16) g)
-unfolding movedSaid
-after-moved k at Refuse g q = refl
-after-moved k at Skip g q = q 16
-after-moved k at (First h) g q = q h
-after-moved k at (Whole b) g q = ap (before b) (q 16) ∙ before-moved k b (g 16)
-
-pub hex-moved : (l : List ℕ) (half k at : ℕ) → hexGo l half (k + at) ≡ movedSaid k (hexGo l half at)
-unfolding hexGo movedSaid
-hex-moved [] half k at = both-moved (movedSaid k) (ltb half 16) refl refl
-hex-moved (b ∷ rest) half k at =
-    after-moved k at (stepOf half b) (λ h. hexGo rest h (at + 1)) (λ h. ap (hexGo rest h) (next k at) ∙ hex-moved rest h k (at + 1))
-
 -- ---- at a place of some bytes: what the bytes from there on say, moved to that place
 
 -- a reading of what is left, moved from place 0
-from-zero : {A : Type 0} (f : ℕ → A) (m : ℕ → A → A) → ((k at : ℕ) → f (k + at) ≡ m k (f at)) → (at : ℕ) → f at ≡ m at (f 0)
+pub from-zero : {A : Type 0} (f : ℕ → A) (m : ℕ → A → A) → ((k at : ℕ) → f (k + at) ≡ m k (f at)) → (at : ℕ) → f at ≡ m at (f 0)
 from-zero f m h at = ap f (sym (add-zero at)) ∙ h at 0
 
 pub number-at-moved : (most limit : ℕ) (s : List ℕ) (at : ℕ) → numberAt most limit s at ≡ moved at (numberAt most limit (drop at s) 0)
@@ -100,11 +65,3 @@ number-at-moved most limit s at = from-zero (numberGo most limit (drop at s) 0 0
 pub pair-at-moved : (low high : ℕ) (s : List ℕ) (at : ℕ) → pairAt low high s at ≡ moved at (pairAt low high (drop at s) 0)
 unfolding pairAt
 pair-at-moved low high s at = from-zero (pairOf low high (drop at s)) moved (pair-moved low high (drop at s)) at
-
-pub hex-byte-at-moved : (s : List ℕ) (at : ℕ) → hexByteAt s at ≡ moved at (hexByteAt (drop at s) 0)
-unfolding hexByteAt
-hex-byte-at-moved s at = from-zero (hexByteOf (drop at s)) moved (hex-byte-moved (drop at s)) at
-
-pub hex-at-moved : (s : List ℕ) (at : ℕ) → hexAt s at ≡ movedSaid at (hexAt (drop at s) 0)
-unfolding hexAt
-hex-at-moved s at = from-zero (hexGo (drop at s) 16) movedSaid (hex-moved (drop at s) 16) at

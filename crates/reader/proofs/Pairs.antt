@@ -10,7 +10,6 @@ use lib.Seq.{drop-cons}
 use borrow.Author.Tests.{lt-ltb, le-leb}
 use Rattle.reader.specs.Bytes.{digitOf}
 use Rattle.reader.specs.Number.{secondOf, pairOf, pairAt}
-use Rattle.reader.specs.Hex.{hexSecond, hexByteOf, hexByteAt}
 use Rattle.reader.specs.declared.Number.the-variants.{Value, Bad}
 
 module _ (s : List ℕ) (at : ℕ) (outside : length s ≤ at) where
@@ -21,14 +20,6 @@ module _ (s : List ℕ) (at : ℕ) (outside : length s ≤ at) where
   pub pair-none : (low high : ℕ) → Bad at ≡ pairAt low high s at
   unfolding pairAt pairOf
   pair-none low high = rw (drop-of-length-le s outside)
-
-  pub hex-second-none : (h : ℕ) → hexSecond h (drop at s) at ≡ Value h at
-  unfolding hexSecond
-  hex-second-none h = rw (drop-of-length-le s outside)
-
-  pub hex-byte-none : Bad at ≡ hexByteAt s at
-  unfolding hexByteAt hexByteOf
-  hex-byte-none = rw (drop-of-length-le s outside)
 
 module _ (s : List ℕ) (at : ℕ) {e : ℕ} (inside : at < length s) (is : e ≡ digitOf (getD s at 0)) where
   pub second-on : (low high d : ℕ) → secondOf low high d (drop at s) at
@@ -43,14 +34,3 @@ module _ (s : List ℕ) (at : ℕ) {e : ℕ} (inside : at < length s) (is : e �
 
   pub pair-first : {low high : ℕ} → e < 10 → low ≤ e * 10 + 9 → e * 10 ≤ high → pairAt low high s at ≡ secondOf low high e (drop (at + 1) s) (at + 1)
   pair-first {low} {high} h l u = pair-on low high ∙ simp (lt-ltb _ _ h, le-leb _ _ l, le-leb _ _ u)
-
-  pub hex-second-on : (h : ℕ) → hexSecond h (drop at s) at ≡ cond (ltb e 16) (Value (h * 16 + e) (at + 1)) (Value h at)
-  unfolding hexSecond
-  hex-second-on h = rw (drop-cons s at 0, is)
-
-  pub hex-byte-on : hexByteAt s at ≡ cond (ltb e 16) (hexSecond e (drop (at + 1) s) (at + 1)) (Bad at)
-  unfolding hexByteAt hexByteOf
-  hex-byte-on = rw (add-one at, drop-cons s at 0, is) (simp add-one)
-
-  pub hex-byte-first : e < 16 → hexByteAt s at ≡ hexSecond e (drop (at + 1) s) (at + 1)
-  hex-byte-first h = hex-byte-on ∙ simp (lt-ltb _ _ h)

@@ -3,4 +3,3 @@
 pub mod Ascii
 pub mod Bytes
 pub mod Number
-pub mod Hex

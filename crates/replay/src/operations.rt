@@ -2,7 +2,7 @@
 use super::output::first;
 use process::Reading;
 use reader::Number;
-use reader::hex::hex_byte;
+use hex::hex_byte;
 use reader::numbers::number;
 use words::after_blanks;
 use words::is_named;

@@ -7,14 +7,9 @@ use native.Mathlib.Omega.{arith}
 use borrow.Author.Tests.{lt-ltb, le-ltb, le-leb}
 use Rattle.reader.specs.Bytes.{digitOf}
 use Rattle.reader.specs.Number.{ended, numberGo, secondOf, pairOf}
-use Rattle.reader.specs.Hex.{good, before, stepOf, hexGo}
-use Rattle.writer.specs.Hex.{capital, hexText}
 use Rattle.writer.specs.Put.{fixed, widthOf, decimal, twoDigits}
 use Rattle.reader.specs.declared.Number.the-variants.{Value}
-use Rattle.reader.specs.declared.HexStep.the-variants.{First, Whole}
-use Rattle.reader.proofs.Tests.{Every}
 use Rattle.reader.proofs.Digits.{digit-is}
-use Rattle.writer.proofs.Hexes.{capital-digit}
 use Rattle.writer.proofs.Decimals.{ten-pos, first-digit, fits-width, decimal-length, decimal-some}
 
 -- ---- decimal numbers
@@ -88,23 +83,3 @@ pair-back low high n rest at h l u =
     let two : at + 1 + 1 ≡ at + 2 = omega arith in
     rw (digit-is (n / 10) d, digit-is (n % 10) e, v, two)
     (simp (lt-ltb _ _ d, lt-ltb _ _ e, le-leb _ _ p, le-leb _ _ q, le-leb _ _ l, le-leb _ _ u))
-
--- ---- hex data
-
-first-half : (d : ℕ) → d < 16 → stepOf 16 (capital d) ≡ First d
-unfolding stepOf
-first-half d h = rw (capital-digit d h) (simp (lt-ltb d 16 h))
-
-second-half : (c d : ℕ) → c < 16 → d < 16 → stepOf c (capital d) ≡ Whole (c * 16 + d)
-unfolding stepOf
-second-half c d k h = rw (capital-digit d h) (simp (lt-ltb d 16 h, lt-ltb c 16 k))
-
-pub hex-back : (bs : List ℕ) (at : ℕ) → Every (λ b. b < 256) bs → hexGo (hexText bs) 16 at ≡ good bs
-unfolding hexGo hexText before
-hex-back [] at h = refl
-hex-back (b ∷ bs) at h =
-    let byte : b < 256 = h .0 in
-    let hi : b / 16 < 16 = omega arith in
-    let lo : b % 16 < 16 = omega arith in
-    let e : b / 16 * 16 + b % 16 ≡ b = div-add-mod' b 16 in
-    rw (first-half (b / 16) hi, second-half (b / 16) (b % 16) hi lo, e, hex-back bs (at + 1 + 1) (h .1))

@@ -1,6 +1,6 @@
 -- `wait_clock` meets its contract: each `return` is a case of `clockOf`. Assumes nothing.
 use mathlib.Core.Path.{ap, _∙_}
-use Rattle.reader.specs.Hex.{Said}
+use Rattle.hex.specs.Hex.{Said}
 use Rattle.language.specs.Meaning.{clockSays}
 use Rattle.arguments.specs.Shown.{shown}
 use Rattle.clocks.proofs.Clocking.{no-clock, at-day, at-hour, at-minute, at-second, at-digits}

@@ -3,11 +3,10 @@ use mathlib.Core.Path.{sym}
 use native.Mathlib.Omega.{arith}
 use lib.ListN.{length, length-take}
 use lib.Seq.{length-take-le}
-use Rattle.lister.proofs.Setting.{encode-room, stopbits-room, omit-room, lfext-room, settings-printed}
+use Rattle.lister.proofs.Setting.{encode-room, stopbits-room, omit-room, lfext-room, settings-printed, omit-is}
 use mathlib.Core.Path.{_≡_}
 use Prim.Native.Nat.{ℕ, _≤_}
 use Rattle.lister.proofs.Printing.{printed-is, room-is}
-use Rattle.lister.proofs.Setting.{omit-is}
 use borrow.Author.Needs.{needs}
 use Rattle.lister.proofs.settings.settings.Statement.{statement}
 use Rattle.lister.proofs.settings.settings.Tie as tie

@@ -1,10 +1,10 @@
 -- `hex_byte` meets its contract: each `return` is a case of `hexByteOf`. Assumes nothing.
 use mathlib.Core.Path.{sym, _∙_}
 use borrow.Author.Tests.{lt-ltb, le-ltb}
-use Rattle.reader.proofs.Pairs.{hex-byte-none, hex-byte-on, hex-byte-first, hex-second-none, hex-second-on}
+use Rattle.hex.proofs.Pairs.{hex-byte-none, hex-byte-on, hex-byte-first, hex-second-none, hex-second-on}
 use borrow.Author.Needs.{needs}
-use Rattle.reader.proofs.hex.hex_byte.Statement.{statement}
-use Rattle.reader.proofs.hex.hex_byte.Tie as tie
+use Rattle.hex.proofs.hex_byte.Statement.{statement}
+use Rattle.hex.proofs.hex_byte.Tie as tie
 
 returns : tie.Need-returns
 returns c = hex-byte-none _ _ (c .if1 .taken)

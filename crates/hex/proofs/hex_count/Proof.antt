@@ -3,10 +3,10 @@ use Prim.Native.Nat.{_-_}
 use mathlib.Core.Path.{sym, _∙_}
 use native.Mathlib.Omega.{arith}
 use lib.ListN.{length}
-use Rattle.reader.proofs.Stepping.{Counting, uncounted, odd-end, even-end, refused, skipped, paired, one-more}
+use Rattle.hex.proofs.Stepping.{Counting, uncounted, odd-end, even-end, refused, skipped, paired, one-more}
 use borrow.Author.Needs.{needs}
-use Rattle.reader.proofs.hex.hex_count.Statement.{statement}
-use Rattle.reader.proofs.hex.hex_count.Tie as tie
+use Rattle.hex.proofs.hex_count.Statement.{statement}
+use Rattle.hex.proofs.hex_count.Tie as tie
 
 abbrev Inv-loop : tie.InvT-loop
 Inv-loop s at n₀ half₀ i₀ n half i = Counting s at n half i

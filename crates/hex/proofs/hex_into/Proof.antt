@@ -1,10 +1,10 @@
 -- `hex_into` meets its contract: each `return` is a law on what the data say. Assumes nothing.
 use mathlib.Core.Path.{sym, _∙_}
 use borrow.Author.Tests.{leb-true}
-use Rattle.reader.proofs.Stepping.{counted-good, counted-room, into-wrong, into-full, into-fits}
+use Rattle.hex.proofs.Stepping.{counted-good, counted-room, into-wrong, into-full, into-fits}
 use borrow.Author.Needs.{needs}
-use Rattle.reader.proofs.hex.hex_into.Statement.{statement}
-use Rattle.reader.proofs.hex.hex_into.Tie as tie
+use Rattle.hex.proofs.hex_into.Statement.{statement}
+use Rattle.hex.proofs.hex_into.Tie as tie
 
 hex-count-requires : tie.Need-hex-count-requires
 hex-count-requires c κs = search needs

@@ -1,16 +1,34 @@
-// Hex data.
+// Hex data, read from a place of a slice.
 ghost use Prim.Native.Nat.{_+_, _≤_};
 ghost use mathlib.Core.Path.{_≡_};
 ghost use lib.ListN.{length};
 ghost use lib.Seq.{sets};
-ghost use Rattle.reader.specs.Hex.{good, stepOf, hexAt, counted, bytesOf, hexInto, hexPut, hexByteAt};
-use super::HexCount;
-use super::HexRead;
-use super::HexStep;
-use super::Number;
-use super::bytes::blank;
-use super::bytes::digit;
-use super::has_room;
+ghost use Rattle.hex.specs.Hex.{good, stepOf, hexAt, counted, bytesOf, hexInto, hexPut, hexByteAt};
+use reader::Number;
+use reader::bytes::blank;
+use reader::bytes::digit;
+use reader::has_room;
+
+// What a byte of hex data does: it cannot be taken, it parts, it begins a pair, or it makes a whole byte.
+pub enum HexStep {
+    Refuse,
+    Skip,
+    First(u8),
+    Whole(u8),
+}
+
+// How many bytes hex data are, or the place of the first byte that cannot be taken.
+pub enum HexCount {
+    Of(usize),
+    Not(usize),
+}
+
+// How many bytes were read, the place of the first byte that cannot be taken, or that there is no room.
+pub enum HexRead {
+    Bytes(usize),
+    Wrong(usize),
+    Full,
+}
 
 // What a byte does after `half`, the first digit of a pair, or 16 where no pair is begun.
 fn hex_step(half: u8, b: u8) -> HexStep

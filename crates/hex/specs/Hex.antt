@@ -6,15 +6,15 @@ use mathlib.Core.List.{List, [], _∷_}
 use lib.ListN.{length, drop}
 use lib.Seq.{sets}
 use lib.Dec.{ltb, leb}
 use Rattle.reader.specs.Bytes.{digitOf, isBlank}
 use Rattle.reader.specs.declared.Number.{Number}
 use Rattle.reader.specs.declared.Number.the-variants.{Value, Bad}
-use Rattle.reader.specs.declared.HexStep.{HexStep}
-use Rattle.reader.specs.declared.HexStep.the-variants.{Refuse, Skip, First, Whole}
-use Rattle.reader.specs.declared.HexCount.{HexCount}
-use Rattle.reader.specs.declared.HexCount.the-variants.{Of, Not}
-use Rattle.reader.specs.declared.HexRead.{HexRead}
-use Rattle.reader.specs.declared.HexRead.the-variants.{Bytes, Wrong, Full}
+use Rattle.hex.specs.declared.HexStep.{HexStep}
+use Rattle.hex.specs.declared.HexStep.the-variants.{Refuse, Skip, First, Whole}
+use Rattle.hex.specs.declared.HexCount.{HexCount}
+use Rattle.hex.specs.declared.HexCount.the-variants.{Of, Not}
+use Rattle.hex.specs.declared.HexRead.{HexRead}
+use Rattle.hex.specs.declared.HexRead.the-variants.{Bytes, Wrong, Full}
 
 -- what data say: their bytes, or the place of the first byte that cannot be taken
 pub data Said : Type 0 where

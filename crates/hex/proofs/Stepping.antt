@@ -10,12 +10,12 @@ use lib.Dec.{ltb, leb}
 use lib.ListN.{length, drop, getD, set, drop-of-length-le}
 use lib.Seq.{drop-cons, sets}
 use borrow.Author.Tests.{lt-ltb, le-ltb}
-use Rattle.reader.specs.Hex.{Said, good, bad, stepOf, before, after, hexGo, hexAt, counted, bytesOf, hexInto, hexPut}
-use Rattle.reader.specs.declared.HexStep.{HexStep}
-use Rattle.reader.specs.declared.HexStep.the-variants.{Refuse, Skip, First, Whole}
-use Rattle.reader.specs.declared.HexCount.the-variants.{Of, Not}
-use Rattle.reader.specs.declared.HexRead.the-variants.{Bytes, Wrong, Full}
+use Rattle.hex.specs.Hex.{Said, stepOf, before, after, hexGo, hexAt, counted, bytesOf, hexInto, hexPut, good, bad}
+use Rattle.hex.specs.declared.HexStep.{HexStep}
+use Rattle.hex.specs.declared.HexStep.the-variants.{Refuse, Skip, First, Whole}
+use Rattle.hex.specs.declared.HexCount.the-variants.{Of, Not}
+use Rattle.hex.specs.declared.HexRead.the-variants.{Bytes, Wrong, Full}
 use Rattle.reader.proofs.Placing.{Placing, begun, renamed, fits, stored, placed}
 
 hex-end : (s : List ℕ) (half i : ℕ) → length s ≤ i → hexGo (drop i s) half i ≡ cond (ltb half 16) (bad i) (good [])
 unfolding hexGo

@@ -3,11 +3,11 @@ use Prim.Native.Nat.{_-_}
 use mathlib.Core.Path.{sym, _∙_}
 use native.Mathlib.Omega.{arith}
 use lib.ListN.{length}
-use Rattle.reader.specs.Hex.{hexAt, bytesOf}
-use Rattle.reader.proofs.Stepping.{Writing, unwritten, all-written, none-refused, parted, begins, room-there, byte-stored}
+use Rattle.hex.specs.Hex.{hexAt, bytesOf}
+use Rattle.hex.proofs.Stepping.{Writing, unwritten, all-written, none-refused, parted, begins, room-there, byte-stored}
 use borrow.Author.Needs.{needs}
-use Rattle.reader.proofs.hex.hex_write.Statement.{statement}
-use Rattle.reader.proofs.hex.hex_write.Tie as tie
+use Rattle.hex.proofs.hex_write.Statement.{statement}
+use Rattle.hex.proofs.hex_write.Tie as tie
 
 abbrev Inv-loop : tie.InvT-loop
 Inv-loop s at dst₀ to place₀ half₀ i₀ dst place half i = Writing s dst₀ to (bytesOf (hexAt s at)) dst place half i

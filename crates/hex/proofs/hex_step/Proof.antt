@@ -1,9 +1,9 @@
 -- `hex_step` meets its contract: at each `return` the tests that led there say which case of `stepOf` holds. Assumes nothing.
 use borrow.Author.Tests.{lt-ltb, le-ltb}
-use Rattle.reader.specs.Hex.{stepOf}
+use Rattle.hex.specs.Hex.{stepOf}
 use borrow.Author.Needs.{needs}
-use Rattle.reader.proofs.hex.hex_step.Statement.{statement}
-use Rattle.reader.proofs.hex.hex_step.Tie as tie
+use Rattle.hex.proofs.hex_step.Statement.{statement}
+use Rattle.hex.proofs.hex_step.Tie as tie
 
 digit-requires : tie.Need-digit-requires
 digit-requires c κs = search needs
