@@ -6,10 +6,10 @@ use super::Letters;
 use super::Line;
 use super::parts::is_name;
 use super::spelling::is_capital;
+use hex::hex_byte;
 use language::Cell;
 use language::Fault;
 use reader::Number;
-use hex::hex_byte;
 
 // RTS: ON or OFF.
 pub fn rts(argument: &[u8]) -> Line

@@ -12,11 +12,11 @@ use super::Data;
 use super::Found;
 use arguments::Line;
 use arguments::spelling::right_signs;
+use hex::HexRead;
+use hex::hex_into;
 use language::Cell;
 use language::Fault;
 use language::Span;
-use hex::HexRead;
-use hex::hex_into;
 use words::after_blanks;
 use writer::put_bytes;
 

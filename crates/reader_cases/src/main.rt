@@ -1,7 +1,7 @@
 // The readers and writers on both sides of each bound: one line for each case, with what was asked and what came back.
-use libc::STDOUT_FILENO;
 use hex::HexCount;
 use hex::HexRead;
+use libc::STDOUT_FILENO;
 use reader::Number;
 use reader::bytes;
 use reader::hex;

@@ -1,8 +1,8 @@
 // An operation, read from a line: `drain SIZE`, `byte HH`, `tick`, `clock YY MM DD hh mm ss`, `level SIGNAL on|off`.
 use super::output::first;
+use hex::hex_byte;
 use process::Reading;
 use reader::Number;
-use hex::hex_byte;
 use reader::numbers::number;
 use words::after_blanks;
 use words::is_named;

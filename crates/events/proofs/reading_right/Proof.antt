@@ -1,4 +1,7 @@
 -- `events::reading_right` meets its contract. Assumes nothing.
+use mathlib.Core.Path.{ap, ap₂, _∙_}
+use mathlib.Core.Bool.{Bool, _&&_}
+use lib.Dec.{leb}
 use Rattle.process.specs.Events.{readingRight}
 use borrow.Author.Needs.{needs}
 use Rattle.events.proofs.reading_right.Statement.{statement}
@@ -27,7 +30,15 @@ both-requires-7 c κs = search needs
 
 returns : tie.Need-returns
 unfolding readingRight
-returns c = cc
+returns c =
+    let d = c .before .before .before .before .before in
+    let e = d .before .before .before .before .before in
+    let a = e .before .before .before .before .before .args in
+    let date = e .both2 .ensures ∙ ap (λ (x : Bool). leb (a .r .month) 12 && x) (e .before .both .ensures) in
+    let month = c .before .before .both5 .ensures ∙ ap (λ (x : Bool). leb 1 (a .r .month) && x) date in
+    let year = c .before .both6 .ensures ∙ ap (λ (x : Bool). leb (a .r .year) 99 && x) month in
+    let hour = d .both4 .ensures ∙ ap (λ (x : Bool). leb (a .r .hour) 23 && x) (d .before .both3 .ensures) in
+    c .both7 .ensures ∙ ap₂ _&&_ year hour
 
 pub reading-right-spec : {M : Type 1} → statement M
 reading-right-spec =

@@ -1,4 +1,9 @@
 -- `receiving::progress_right` meets its contract. Assumes nothing.
+use Prim.Native.Nat.{ℕ, _+_}
+use mathlib.Core.Path.{ap₂, _∙_}
+use mathlib.Core.Bool.{_&&_}
+use lib.Dec.{leb, ltb}
+use Rattle.language.specs.Limits.{dataLimit}
 use Rattle.process.specs.Waiting.{progressRight}
 use borrow.Author.Needs.{needs}
 use Rattle.receiving.proofs.progress_right.Statement.{statement}
@@ -18,7 +23,10 @@ both-requires c κs = search needs
 
 returns : tie.Need-returns
 unfolding progressRight
-returns c = cc
+returns c =
+    let d = c .before .before in
+    let a = d .before .before .args .m in
+    c .both .ensures ∙ ap₂ (λ (x y : ℕ). leb (x + y) dataLimit && ltb (a .matched) (a .count)) (d .before .wide .ensures) (d .wide2 .ensures)
 
 pub progress-right-spec : {M : Type 1} → statement M
 progress-right-spec =

@@ -1,4 +1,6 @@
 -- `receiving::take_byte` meets its contract. Assumes nothing.
+use mathlib.Core.Path.{ap, _∙_}
+use Rattle.process.specs.Waiting.{withWait}
 use borrow.Author.Needs.{needs}
 use Rattle.receiving.proofs.take_byte.Statement.{statement}
 use Rattle.receiving.proofs.take_byte.Tie as tie
@@ -10,7 +12,7 @@ with-requires : tie.Need-with-requires
 with-requires c κs = search needs
 
 returns : tie.Need-returns
-returns c = cc
+returns c = c .with .ensures ∙ ap (withWait (c .before .before .args .p)) (c .before .wait-byte .ensures)
 
 pub take-byte-spec : {M : Type 1} → statement M
 take-byte-spec = tie.close (tie.spec wait-byte-requires with-requires returns)

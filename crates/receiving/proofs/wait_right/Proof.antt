@@ -1,4 +1,6 @@
 -- `receiving::wait_right` meets its contract: each arm is given which variant the wait is. Assumes nothing.
+use mathlib.Core.Path.{sym, ap, _∙_}
+use Rattle.process.specs.Waiting.{waitRight}
 use borrow.Author.Needs.{needs}
 use Rattle.receiving.proofs.wait_right.Statement.{statement}
 use Rattle.receiving.proofs.wait_right.Tie as tie
@@ -40,7 +42,7 @@ returns-4 : tie.Need-returns-4
 returns-4 c = search needs
 
 returns-5 : tie.Need-returns-5
-returns-5 c = cc
+returns-5 c = c .progress-right .ensures ∙ sym (ap waitRight (c .before .before .w .given .1))
 
 returns-6 : tie.Need-returns-6
 returns-6 c = search needs

@@ -1,4 +1,5 @@
 -- `starting::all_started` meets its contract. Assumes nothing.
+use mathlib.Core.List.{[], _∷_}
 use Rattle.starting.specs.Starting.{startedFrom}
 use borrow.Author.Needs.{needs}
 use Rattle.starting.proofs.all_started.Statement.{statement}
@@ -30,7 +31,17 @@ started-at-requires-8 c κs = search needs
 
 returns : tie.Need-returns
 unfolding startedFrom
-returns c = cc
+returns c =
+    let d = c .before .before .before .before in
+    λ j. d .before .before .before .started-at .ensures j
+    ∷ d .before .before .started-at2 .ensures j
+    ∷ d .before .started-at3 .ensures j
+    ∷ d .started-at4 .ensures j
+    ∷ c .before .before .before .started-at5 .ensures j
+    ∷ c .before .before .started-at6 .ensures j
+    ∷ c .before .started-at7 .ensures j
+    ∷ c .started-at8 .ensures j
+    ∷ []
 
 pub all-started-spec : {M : Type 1} → statement M
 all-started-spec =

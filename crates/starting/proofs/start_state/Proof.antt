@@ -1,4 +1,6 @@
 -- `starting::start_state` meets its contract. Assumes nothing.
+use mathlib.Core.Bool.{false}
+use lib.ListN.{replicate}
 use Rattle.starting.specs.Starting.{startState}
 use borrow.Author.Needs.{needs}
 use Rattle.starting.proofs.start_state.Statement.{statement}
@@ -12,7 +14,12 @@ no-reading-requires c κs = search needs
 
 returns : tie.Need-returns
 unfolding startState
-returns c = cc
+returns c = λ j. record {
+  processes = c .before .all-started .ensures j;
+  reading = c .no-reading .ensures j;
+  levels = replicate 5 false;
+  paused = false;
+}
 
 pub start-state-spec : {M : Type 1} → statement M
 start-state-spec = tie.close (tie.spec all-started-requires no-reading-requires returns)

@@ -1,4 +1,5 @@
 -- `starting::started_at` meets its contract: one law for each way. Assumes nothing.
+use mathlib.Core.Path.{sym, _∙_}
 use native.Mathlib.Omega.{arith}
 use Rattle.starting.proofs.Started.{started-absent, started-first, started-next}
 use borrow.Author.Needs.{needs}
@@ -12,7 +13,7 @@ start-at-requires : tie.Need-start-at-requires
 start-at-requires c κs = search needs
 
 returns : tie.Need-returns
-returns c = let a = c .before .before .before .before .args in cc (started-absent (a .heads) (a .i) (omega arith))
+returns c = let a = c .before .before .before .before .args in c .start-at .ensures ∙ sym (started-absent (a .heads) (a .i) (omega arith))
 
 array-read-start-at : tie.Need-array-read-start-at
 array-read-start-at c = search needs
@@ -21,7 +22,7 @@ start-at-requires-2 : tie.Need-start-at-requires-2
 start-at-requires-2 c κs = search needs
 
 returns-2 : tie.Need-returns-2
-returns-2 c = let a = c .before .before .before .before .before .args in cc (started-first (a .heads) (a .i) (omega arith) (omega arith))
+returns-2 c = let a = c .before .before .before .before .before .args in c .start-at2 .ensures ∙ sym (started-first (a .heads) (a .i) (omega arith) (omega arith))
 
 sub-start-at : tie.Need-sub-start-at
 sub-start-at c = search needs
@@ -42,7 +43,7 @@ start-at-requires-3 : tie.Need-start-at-requires-3
 start-at-requires-3 c κs = search needs
 
 returns-3 : tie.Need-returns-3
-returns-3 c = let a = c .before .before .before .before .before .args in cc (started-next (a .heads) (a .i) (omega arith) (omega arith))
+returns-3 c = let a = c .before .before .before .before .before .args in c .start-at3 .ensures ∙ sym (started-next (a .heads) (a .i) (omega arith) (omega arith))
 
 pub started-at-spec : {M : Type 1} → statement M
 started-at-spec =
