@@ -1,4 +1,5 @@
 -- `role_of` meets its contract, cell by cell. Assumes nothing.
+use mathlib.Core.Path.{sym, ap, _∙_}
 use borrow.Author.Needs.{needs}
 use Rattle.language.specs.Stretch.{markOf}
 use Rattle.language.specs.Table.{statementOf}
@@ -9,13 +10,17 @@ use Rattle.stretch.proofs.role_of.Statement.{statement}
 use Rattle.stretch.proofs.role_of.Tie as tie
 
 returns-3 : tie.Need-returns-3
-returns-3 c = cc (mark-loop (c .before .c .given .0 .0))
+returns-3 c = sym (ap cellMark (c .before .c .given .1) ∙ mark-loop (c .before .c .given .0 .0))
 
 returns-5 : tie.Need-returns-5
-returns-5 c = cc (mark-time (c .before .before .c2 .given .0 .0))
+returns-5 c =
+    let w = c .before .before in
+    c .rest-above-zero .ensures ∙ sym (ap cellMark (w .c2 .given .1) ∙ mark-time (w .c2 .given .0 .0))
 
 returns-7 : tie.Need-returns-7
-returns-7 c = cc (mark-byte (c .before .before .c3 .given .0 .0))
+returns-7 c =
+    let w = c .before .before in
+    c .rest-above-zero2 .ensures ∙ sym (ap cellMark (w .c3 .given .1) ∙ mark-byte (w .c3 .given .0 .0))
 
 returns : tie.Need-returns
 unfolding cellMark markOf statementOf
