@@ -1,4 +1,6 @@
 -- `asks` meets its contract, cell by cell. Assumes nothing.
+use mathlib.Core.Path.{sym, ap}
+use Rattle.compiler.specs.Cells.{asksOf}
 use borrow.Author.Needs.{needs}
 use Rattle.compiler.proofs.cells.asks.Statement.{statement}
 use Rattle.compiler.proofs.cells.asks.Tie as tie
@@ -55,7 +57,7 @@ returns : tie.Need-returns
 returns c = search needs
 
 returns-2 : tie.Need-returns-2
-returns-2 c = cc
+returns-2 c = sym (ap asksOf (c .before .cell .given .1))
 
 returns-3 : tie.Need-returns-3
 returns-3 c = search needs
@@ -67,7 +69,7 @@ returns-5 : tie.Need-returns-5
 returns-5 c = search needs
 
 returns-6 : tie.Need-returns-6
-returns-6 c = cc
+returns-6 c = sym (ap asksOf (c .before .cell2 .given .1))
 
 returns-7 : tie.Need-returns-7
 returns-7 c = search needs
@@ -82,7 +84,7 @@ returns-10 : tie.Need-returns-10
 returns-10 c = search needs
 
 returns-11 : tie.Need-returns-11
-returns-11 c = cc
+returns-11 c = sym (ap asksOf (c .before .cell3 .given .1))
 
 returns-12 : tie.Need-returns-12
 returns-12 c = search needs
