@@ -18,41 +18,18 @@ use Rattle.language.specs.Table.{dataAt}
 
 -- ---- data
 
-module _ (b : ℕ) where
-  pub too-low : b < 32 → isPlain b ≡ false
-  unfolding isPlain
-  too-low h = rw (lt-leb 32 b h)
+module _ (room : ℕ) (bs : List ℕ) {t : Bool} (told : t ≡ inHex room bs) where
+  pub hex-data : t ≡ true → (58 ∷ []) ++ hexText bs ≡ dataText room bs
+  unfolding dataText
+  hex-data e = rw (sym told ∙ e)
 
-  pub too-high : 32 ≤ b → 126 < b → isPlain b ≡ false
-  unfolding isPlain
-  too-high h k = rw (le-leb 32 b h, lt-leb b 126 k)
+  pub text-data : t ≡ false → (47 ∷ []) ++ bs ≡ dataText room bs
+  unfolding dataText
+  text-data e = rw (sym told ∙ e)
 
-  pub is-plain : 32 ≤ b → b ≤ 126 → isPlain b ≡ true
-  unfolding isPlain
-  is-plain h k = rw (le-leb 32 b h, le-leb b 126 k)
-
-module _ (room : ℕ) (bs : List ℕ) where
-  module _ {t : Bool} (told : t ≡ all isPlain bs) where
-    pub plain-text : t ≡ true → false ≡ inHex room bs
-    unfolding inHex
-    plain-text e = rw (sym told ∙ e)
-
-    pub other-text : t ≡ false → leb (length bs * 2) room ≡ inHex room bs
-    unfolding inHex
-    other-text e = rw (sym told ∙ e)
-
-  module _ {t : Bool} (told : t ≡ inHex room bs) where
-    pub hex-data : t ≡ true → (58 ∷ []) ++ hexText bs ≡ dataText room bs
-    unfolding dataText
-    hex-data e = rw (sym told ∙ e)
-
-    pub text-data : t ≡ false → (47 ∷ []) ++ bs ≡ dataText room bs
-    unfolding dataText
-    text-data e = rw (sym told ∙ e)
-
-    pub hex-few : room ≤ 126 → t ≡ true → length bs ≤ 63
-    unfolding inHex
-    hex-few h e = omega (arith, leb-true (length bs * 2) room (both-right (not (all isPlain bs)) _ (sym told ∙ e)))
+  pub hex-few : room ≤ 126 → t ≡ true → length bs ≤ 63
+  unfolding inHex
+  hex-few h e = omega (arith, leb-true (length bs * 2) room (both-right (not (all isPlain bs)) _ (sym told ∙ e)))
 
 -- a part of the pool
 pub held : (pool : List ℕ) (s : Span) {f n : ℕ} → f ≡ s .from → n ≡ s .count → take (f + n - f) (drop f pool) ≡ dataAt pool s

@@ -3,10 +3,9 @@ ghost use mathlib.Core.Path.{_≡_};
 ghost use mathlib.Core.List.{_++_};
 ghost use Prim.Native.Nat.{_+_, _≤_};
 ghost use Rattle.reader.specs.Ascii.{ascii};
-ghost use Rattle.reader.specs.Bytes.{all};
 ghost use Rattle.language.specs.Clock.{clockLetter, clockText};
 ghost use Rattle.language.specs.Cell.{fixedUnits};
-ghost use Rattle.language.specs.Listing.{isPlain, inHex, dataText, countText, timeText, onText, signalText, logText};
+ghost use Rattle.language.specs.Listing.{dataText, countText, timeText, onText, signalText, logText};
 ghost use Rattle.language.specs.Table.{dataAt};
 ghost use Rattle.printer.specs.Printed.{Within, Printed};
 use super::text::hex;
@@ -16,6 +15,7 @@ use super::text::unit;
 use language::Clock;
 use language::Pool;
 use language::Span;
+use plain::in_hex;
 
 fn wide(x: u16) -> usize
     ensures { λ r. ⌜ r ≡ x ⌝ }
@@ -27,34 +27,6 @@ pub(crate) fn number_of(x: u16) -> u32
     ensures { λ r. ⌜ r ≡ x ⌝ }
 {
     x as u32
-}
-
-// Whether every byte lies in 20h to 7Eh.
-fn all_plain(text: &[u8]) -> bool
-    ensures { λ r. ⌜ r ≡ all isPlain (now (text .entry)) ⌝ }
-{
-    let mut i = 0usize;
-    while i < text.len() {
-        let b = text[i];
-        if b < 32 {
-            return false;
-        }
-        if 126 < b {
-            return false;
-        }
-        i += 1;
-    }
-    true
-}
-
-// "Data in hex .. where a byte lies outside 20h to 7Eh and the line fits in 127".
-fn in_hex(text: &[u8], room: usize) -> bool
-    ensures { λ r. ⌜ r ≡ inHex room (now (text .entry)) ⌝ }
-{
-    if all_plain(text) {
-        return false;
-    }
-    text.len() * 2 <= room
 }
 
 // Data in hex behind `:`, or as text behind `/`.

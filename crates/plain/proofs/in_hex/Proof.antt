@@ -1,8 +1,8 @@
--- `printer::lines::in_hex` meets its contract. Assumes nothing.
-use Rattle.printer.proofs.Texts.{plain-text, other-text}
+-- `plain::in_hex` meets its contract. Assumes nothing.
+use Rattle.plain.proofs.Plain.{plain-text, other-text}
 use borrow.Author.Needs.{needs}
-use Rattle.printer.proofs.lines.in_hex.Statement.{statement}
-use Rattle.printer.proofs.lines.in_hex.Tie as tie
+use Rattle.plain.proofs.in_hex.Statement.{statement}
+use Rattle.plain.proofs.in_hex.Tie as tie
 
 all-plain-requires : tie.Need-all-plain-requires
 all-plain-requires c κs = search needs
