@@ -86,7 +86,6 @@ fn statement(out: &mut [u8], at: usize, pool: &Pool, w: u32) -> usize
 {
     let c = decode(w);
     match c {
-        Cell::Nothing => put(out, at, b"#NOP"),
         Cell::Send(s) => pool_text(out, at, pool, s, 126),
         Cell::Loop(n) => loops(out, at, n),
         Cell::End => put(out, at, b"#END"),
@@ -100,8 +99,7 @@ fn statement(out: &mut [u8], at: usize, pool: &Pool, w: u32) -> usize
         Cell::Fchange => put(out, at, b"#FCHANGE"),
         Cell::Pause => put(out, at, b"#PAUSE"),
         Cell::Resume => put(out, at, b"#RESUME"),
-        Cell::Nop => put(out, at, b"#NOP"),
-        Cell::Unknown => put(out, at, b"#NOP"),
+        _ => put(out, at, b"#NOP"),
     }
 }
 
