@@ -1,22 +1,16 @@
 // The lines of the processes.
-ghost use mathlib.Core.Path.{_≡_};
 ghost use mathlib.Core.List.{_∷_, []};
 ghost use lib.ListN.{drop, take};
 ghost use Rattle.language.specs.Script.{next};
 ghost use Rattle.accepted.specs.Tests.{endsOf};
 ghost use Rattle.printer.specs.Printed.{Within, Printed, printedItems, printedCells, further, printedFirst, printedBody};
+use super::lines::wide;
 use super::statements::line;
 use super::text::put;
 use accepted::settings::first_empty;
 use language::Cells;
 use language::Heads;
 use language::Pool;
-
-fn wide(x: u16) -> usize
-    ensures { λ r. ⌜ r ≡ x ⌝ }
-{
-    x as usize
-}
 
 // The lines of the cells from one place to another.
 fn cell_lines<'a>(

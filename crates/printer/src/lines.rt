@@ -11,13 +11,14 @@ ghost use Rattle.printer.specs.Printed.{Within, Printed};
 use super::text::hex;
 use super::text::number;
 use super::text::put;
+use super::text::store;
 use super::text::unit;
 use language::Clock;
 use language::Pool;
 use language::Span;
 use plain::in_hex;
 
-fn wide(x: u16) -> usize
+pub(crate) fn wide(x: u16) -> usize
     ensures { λ r. ⌜ r ≡ x ⌝ }
 {
     x as usize
@@ -35,11 +36,11 @@ fn data_text(out: &mut [u8], at: usize, text: &[u8], room: usize) -> usize
     ensures { λ r. ⌜ Printed (dataText room (now (text .entry))) (now (out .entry)) at r (now (out .exit)) ⌝ }
 {
     if in_hex(text, room) {
-        let next = put(out, at, b":");
-        return hex(out, next, text);
+        store(out, at, b':');
+        return hex(out, at + 1, text);
     }
-    let next = put(out, at, b"/");
-    put(out, next, text)
+    store(out, at, b'/');
+    put(out, at + 1, text)
 }
 
 // The data that lie in a range of the pool.

@@ -13,7 +13,7 @@ use writer::put_hex;
 use writer::put_two_digits;
 
 // Writes a byte, if the slice has the place.
-fn store(out: &mut [u8], at: usize, b: u8)
+pub(crate) fn store(out: &mut [u8], at: usize, b: u8)
     ensures { λ r. ⌜ now (out .exit) ≡ set (now (out .entry)) at b ⌝ }
 {
     if at < out.len() {
