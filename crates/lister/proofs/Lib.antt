@@ -1,10 +1,2 @@
-pub mod Printing
-pub mod Scratch
-pub mod Texts
-pub mod Clocking
-pub mod Stating
-pub mod Lining
-pub mod Bodies
-pub mod Setting
 pub mod Listing
 pub mod Reported

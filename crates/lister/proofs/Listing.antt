@@ -1,61 +1,60 @@
--- A LISTING HAS AT MOST 13,670 BYTES, so that a buffer of LISTING bytes is never refused with 26; and the ways out of the lister.
--- Assumes nothing.
+-- A BUFFER OF LISTING BYTES IS NEVER REFUSED WITH 26; and the ways out of the lister. Assumes nothing.
 use Prim.Native.Nat.{ℕ, _≤_, _<_}
-use mathlib.Core.Path.{_≡_, sym, ap, _∙_}
-use mathlib.Core.Bool.{Bool, true, false}
+use mathlib.Core.Path.{_≡_, refl, sym, ap, _∙_}
+use mathlib.Core.Bool.{Bool, true, false, cond}
 use mathlib.Core.List.{List}
 use native.Mathlib.Omega.{arith}
 use lib.ListN.{length}
 use borrow.Author.Tests.{le-leb, lt-leb}
 use Rattle.language.specs.declared.Table.{Table}
-use Rattle.language.specs.Limits.{omitLimit}
-use Rattle.language.specs.Stretch.{stretchOf}
-use Rattle.language.specs.Table.{headsOf, laidOut, scriptOf}
-use Rattle.language.proofs.Good.{Good, good}
-use Rattle.language.proofs.Size.{listing-size}
 use Rattle.accepted.specs.Accepted.{tableRight}
-use Rattle.accepted.proofs.Exactly.{laid-out, script-right}
+use Rattle.printer.specs.declared.Length.{Length}
+use Rattle.printer.specs.declared.Length.the-variants as length
+use Rattle.printer.specs.Printed.{longest}
+use Rattle.printer.specs.Print.{listingOf, printAnswer, printInto}
+use Rattle.printer.proofs.Fitting.{listing-few}
 use Rattle.lister.specs.declared.Wrong.the-variants.{BadTable, NoRoom}
 use Rattle.lister.specs.declared.Listed.the-variants.{Wrote, Refused}
-use Rattle.lister.specs.Printed.{longest, Within, Printed}
-use Rattle.lister.specs.Listed.{listingOf, listAnswer, listInto}
+use Rattle.lister.specs.Listed.{listAnswer, listInto}
 
-module _ (t : Table) (right : tableRight t ≡ true) where
-  is-good : Good stretchOf (scriptOf t)
-  is-good = good stretchOf (scriptOf t) (script-right t right)
+-- a buffer of LISTING bytes is large enough
+pub room-always : (t : Table) → tableRight t ≡ true → (d : List ℕ) → longest ≤ length d → listAnswer t d ≡ Wrote (length (listingOf t))
+unfolding listAnswer
+room-always t right d h =
+    let l : length (listingOf t) ≤ length d = omega (arith, listing-few t right) in
+    rw (right, le-leb (length (listingOf t)) (length d) l)
 
-  pub listing-few : length (listingOf t) ≤ longest
-  listing-few = listing-size stretchOf (scriptOf t) is-good
+module _ (t : Table) (d : List ℕ) {x : Length} (told : x ≡ printAnswer t) where
+  -- what the printer's answer says of the table
+  not-right : x ≡ length.BadTable → tableRight t ≡ false
+  unfolding printAnswer
+  not-right e = go (tableRight t) (sym told ∙ e)
+    where
+      go : (a : Bool) → cond a (length.Bytes (length (listingOf t))) length.BadTable ≡ length.BadTable → a ≡ false
+      go true h = let z : _≡_ {A = ℕ} 0 1 = cc in absurd (omega arith)
+      go false h = refl
 
-  pub listing-room : Within 0 (listingOf t)
-  listing-room = record { fits = omega (arith, listing-few) }
+  is-right : {n : ℕ} → x ≡ length.Bytes n → (tableRight t ≡ true) × (n ≡ length (listingOf t))
+  unfolding printAnswer
+  is-right {n} e = go (tableRight t) (sym told ∙ e)
+    where
+      go : (a : Bool) → cond a (length.Bytes (length (listingOf t))) length.BadTable ≡ length.Bytes n → (a ≡ true) × (n ≡ length (listingOf t))
+      go true h = (refl, cc)
+      go false h = let z : _≡_ {A = ℕ} 0 1 = cc in absurd (omega arith)
 
-  pub omits-few : t .heads .omits ≤ omitLimit
-  unfolding laidOut headsOf
-  omits-few = omega (arith, is-good .settings .omitted, ap (λ (u : Table). u .heads .omits) (laid-out t right))
-
-  -- a buffer of LISTING bytes is large enough
-  pub room-always : (d : List ℕ) → longest ≤ length d → listAnswer t d ≡ Wrote (length (listingOf t))
-  unfolding listAnswer
-  room-always d h =
-      let l : length (listingOf t) ≤ length d = omega (arith, listing-few) in
-      rw (right, le-leb (length (listingOf t)) (length d) l)
-
-module _ (t : Table) (d : List ℕ) {a : Bool} (told : a ≡ tableRight t) where
-  pub bad-table : a ≡ false → (Refused BadTable ≡ listAnswer t d) × (d ≡ listInto t d)
+  pub bad-table : x ≡ length.BadTable → (Refused BadTable ≡ listAnswer t d) × (d ≡ listInto t d)
   unfolding listAnswer listInto
-  bad-table e = (rw (sym told ∙ e), rw (sym told ∙ e))
+  bad-table e = (rw (not-right e), rw (not-right e))
 
-  module _ (yes : a ≡ true) {n : ℕ} {x y : List ℕ} (count : Printed (listingOf t) x 0 n y) where
+  module _ {n : ℕ} (is : x ≡ length.Bytes n) where
     pub no-room : length d < n → (Refused NoRoom ≡ listAnswer t d) × (d ≡ listInto t d)
     unfolding listAnswer listInto
     no-room h =
-        let l : length d < length (listingOf t) = omega (arith, count .place) in
-        (rw (sym told ∙ yes, lt-leb (length (listingOf t)) (length d) l), rw (sym told ∙ yes, lt-leb (length (listingOf t)) (length d) l))
+        let l : length d < length (listingOf t) = omega (arith, is-right is .1) in
+        (rw (is-right is .0, lt-leb (length (listingOf t)) (length d) l), rw (is-right is .0, lt-leb (length (listingOf t)) (length d) l))
 
-    pub wrote : n ≤ length d → {r : ℕ} {e : List ℕ} → Printed (listingOf t) d 0 r e → (Wrote r ≡ listAnswer t d) × (e ≡ listInto t d)
-    unfolding listAnswer listInto
-    wrote h {r} p =
-        let l : length (listingOf t) ≤ length d = omega (arith, count .place) in
-        let k : r ≡ length (listingOf t) = omega (arith, p .place) in
-        (ap Wrote k ∙ rw (sym told ∙ yes, le-leb (length (listingOf t)) (length d) l), p .written ∙ rw (sym told ∙ yes, le-leb (length (listingOf t)) (length d) l))
+    pub wrote : n ≤ length d → {e : List ℕ} → e ≡ printInto t d → (Wrote n ≡ listAnswer t d) × (e ≡ listInto t d)
+    unfolding listAnswer listInto printInto
+    wrote h p =
+        let l : length (listingOf t) ≤ length d = omega (arith, is-right is .1) in
+        (ap Wrote (is-right is .1) ∙ rw (is-right is .0, le-leb (length (listingOf t)) (length d) l), p ∙ rw (is-right is .0, le-leb (length (listingOf t)) (length d) l))

@@ -10,10 +10,11 @@ use lib.Seq.{sets, sets-eq, take-at, drop-at}
 use borrow.Author.Tests.{le-leb}
 use Rattle.language.specs.declared.Table.{Table}
 use Rattle.accepted.specs.Accepted.{tableRight}
+use Rattle.printer.specs.Print.{listingOf}
 use Rattle.lister.specs.declared.Wrong.{Wrong}
 use Rattle.lister.specs.declared.Wrong.the-variants.{BadTable, NoRoom}
 use Rattle.lister.specs.declared.Listed.the-variants.{Wrote, Refused}
-use Rattle.lister.specs.Listed.{listingOf, listAnswer, listInto}
+use Rattle.lister.specs.Listed.{listAnswer, listInto}
 
 module _ (t : Table) (d : List ℕ) (right : tableRight t ≡ true) (room : length (listingOf t) ≤ length d) where
   in-front : listInto t d ≡ listingOf t ++ drop (length (listingOf t)) d

@@ -7,17 +7,12 @@ use lib.ListN.{length}
 use lib.Seq.{sets}
 use lib.Dec.{leb}
 use Rattle.language.specs.declared.Table.{Table}
-use Rattle.language.specs.Listing.{listing}
-use Rattle.language.specs.Table.{scriptOf}
 use Rattle.accepted.specs.Accepted.{tableRight}
+use Rattle.printer.specs.Print.{listingOf}
 use Rattle.lister.specs.declared.Wrong.{Wrong}
 use Rattle.lister.specs.declared.Wrong.the-variants.{BadTable, NoRoom}
 use Rattle.lister.specs.declared.Listed.{Listed}
 use Rattle.lister.specs.declared.Listed.the-variants.{Wrote, Refused}
-
--- the listing of a table
-abbrev pub listingOf : Table → List ℕ
-listingOf t = listing (scriptOf t)
 
 -- the table is tested first, then the room
 unfoldable pub listAnswer : Table → List ℕ → Listed

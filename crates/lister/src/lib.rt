@@ -1,18 +1,11 @@
-// Table to listing: the lines of the settings, then those of the processes, "CR LF after each line".
+// Table to listing, in a lent buffer: the table is tested first, then the room.
 ghost use mathlib.Core.Path.{_≡_};
-ghost use Prim.Native.Nat.{_≤_};
-ghost use Rattle.lister.specs.Printed.{Within, Printed};
-ghost use Rattle.lister.specs.Listed.{listingOf, listAnswer, listInto};
-use accepted::is_accepted;
+ghost use Rattle.lister.specs.Listed.{listAnswer, listInto};
 use language::Cells;
 use language::Heads;
 use language::Pool;
-
-mod body;
-mod lines;
-mod settings;
-mod statements;
-mod text;
+use printer::Length;
+use printer::print;
 
 // The longest listing that any accepted table has.
 pub const LISTING: usize = 13670;
@@ -29,27 +22,21 @@ pub enum Listed {
     Refused(Wrong),
 }
 
-// Writes the listing as far as the buffer goes: how many bytes it has.
-fn print<'a>(cells: &'a Cells, pool: &'a Pool, heads: Heads, out: &mut [u8]) -> usize
-    requires { ⌜ (heads .omits ≤ 10) × Within 0 (listingOf (record { cells = now cells; pool = now pool; heads = heads })) ⌝ }
-    ensures { λ r. ⌜ Printed (listingOf (record { cells = now (cells .entry); pool = now (pool .entry); heads = heads })) (now (out .entry)) 0 r (now (out .exit)) ⌝ }
-{
-    let next = settings::settings(out, 0, heads);
-    body::body(out, next, cells, pool, heads)
-}
-
 /// Writes the listing of a table's script; or refuses, first a table that no accepted script has, then a buffer that is too small.
 pub fn list<'a>(cells: &'a Cells, pool: &'a Pool, heads: Heads, out: &mut [u8]) -> Listed
     ensures { λ r. ⌜ (r ≡ listAnswer (record { cells = now (cells .entry); pool = now (pool .entry); heads = heads }) (now (out .entry))) × (now (out .exit) ≡ listInto (record { cells = now (cells .entry); pool = now (pool .entry); heads = heads }) (now (out .entry))) ⌝ }
 {
-    if is_accepted(cells, pool, heads) {
-        let mut nowhere = [0u8; 1];
-        let count = print(cells, pool, heads, &mut nowhere);
-        if out.len() < count {
-            return Listed::Refused(Wrong::NoRoom);
+    // A refusal alters no byte, so the length is learned first.
+    let mut nowhere = [0u8; 1];
+    let length = print(cells, pool, heads, &mut nowhere);
+    match length {
+        Length::Bytes(count) => {
+            if out.len() < count {
+                return Listed::Refused(Wrong::NoRoom);
+            }
+            print(cells, pool, heads, out);
+            Listed::Wrote(count)
         }
-        let wrote = print(cells, pool, heads, out);
-        return Listed::Wrote(wrote);
+        Length::BadTable => Listed::Refused(Wrong::BadTable),
     }
-    Listed::Refused(Wrong::BadTable)
 }

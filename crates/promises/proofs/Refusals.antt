@@ -26,7 +26,8 @@ use Rattle.lister.specs.declared.Wrong as wrongs
 use Rattle.lister.specs.declared.Wrong.the-variants as wrong
 use Rattle.lister.specs.declared.Listed.the-variants.{Wrote, Refused}
 use Rattle.lister.specs.Listed as tables
-use Rattle.lister.specs.Listed.{listingOf, listAnswer, listInto}
+use Rattle.printer.specs.Print.{listingOf}
+use Rattle.lister.specs.Listed.{listAnswer, listInto}
 use Rattle.promises.specs.Demand1.{RefusesText, RefusesTable, WritesAllOrNothing, AltersNothing}
 use Rattle.promises.proofs.Demand1.{demand-1, demand-1-lent}
 

@@ -1,0 +1,9 @@
+pub mod Printing
+pub mod Scratch
+pub mod Texts
+pub mod Clocking
+pub mod Stating
+pub mod Lining
+pub mod Bodies
+pub mod Setting
+pub mod Fitting

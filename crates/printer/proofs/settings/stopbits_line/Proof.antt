@@ -1,0 +1,29 @@
+-- `printer::settings::stopbits_line` meets its contract. Assumes nothing.
+use Rattle.reader.specs.Ascii.{ascii}
+use Rattle.printer.proofs.Printing.{printed-none, printed-is, room-is}
+use Rattle.printer.proofs.Setting.{stands, stands-not}
+use borrow.Author.Needs.{needs}
+use Rattle.printer.proofs.settings.stopbits_line.Statement.{statement}
+use Rattle.printer.proofs.settings.stopbits_line.Tie as tie
+
+slice-aggregate-put : tie.Need-slice-aggregate-put
+slice-aggregate-put c = search needs
+
+put-requires : tie.Need-put-requires
+put-requires c κs = room-is (stands (ascii "#f:STOPBITS 2") (c .before .before .if1 .taken)) (c .before .before .before .before .pre)
+
+same-length : tie.Need-same-length
+same-length c = search needs
+
+returns : tie.Need-returns
+returns c =
+    let a = c .before .before in
+    let b = a .before .before .before in
+    printed-is (stands (ascii "#f:STOPBITS 2") (b .if1 .taken)) (a .put .ensures)
+
+returns-2 : tie.Need-returns-2
+returns-2 c = printed-is (stands-not (ascii "#f:STOPBITS 2") (c .if1 .left)) printed-none
+
+pub stopbits-line-spec : {M : Type 1} → statement M
+stopbits-line-spec =
+    tie.close (tie.spec slice-aggregate-put put-requires same-length returns returns-2)

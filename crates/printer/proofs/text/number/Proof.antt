@@ -1,0 +1,61 @@
+-- `printer::text::number` meets its contract. Assumes nothing.
+use native.Mathlib.Omega.{arith}
+use Rattle.writer.proofs.Decimals.{decimal-few}
+use Rattle.printer.proofs.Printing.{printed-is, room-is}
+use Rattle.printer.proofs.Scratch.{never, enough, first-bytes}
+use borrow.Author.Needs.{needs}
+use Rattle.printer.proofs.text.number.Statement.{statement}
+use Rattle.printer.proofs.text.number.Tie as tie
+
+slice-aggregate-put-decimal : tie.Need-slice-aggregate-put-decimal
+slice-aggregate-put-decimal c = search needs
+
+put-decimal-requires : tie.Need-put-decimal-requires
+put-decimal-requires c κs = search needs
+
+enum-known-done : tie.Need-enum-known-done
+enum-known-done c = search needs
+
+slice-aggregate-put-first : tie.Need-slice-aggregate-put-first
+slice-aggregate-put-first c = search needs
+
+put-first-requires : tie.Need-put-first-requires
+put-first-requires c κs =
+    let a = c .before .before .before in
+    let d = a .before .before .before in
+    let s = d .before .before .before in
+    (enough _ _ (d .put-decimal .ensures .0) (decimal-few 10 (s .args .n) (omega arith) (omega (arith, s .fits .n))) (a .done .given .1) (d .put-decimal .ensures .1), room-is (first-bytes _ _ (d .put-decimal .ensures .0) (decimal-few 10 (s .args .n) (omega arith) (omega (arith, s .fits .n))) (a .done .given .1) (d .put-decimal .ensures .1)) (s .pre))
+
+enum-told : tie.Need-enum-told
+enum-told c = search needs
+
+same-length : tie.Need-same-length
+same-length c = search needs
+
+returns : tie.Need-returns
+returns c =
+    let a = c .before .before in
+    let b = a .before .before .before .before in
+    let d = b .before .before .before in
+    let s = d .before .before .before in
+    printed-is (first-bytes _ _ (d .put-decimal .ensures .0) (decimal-few 10 (s .args .n) (omega arith) (omega (arith, s .fits .n))) (b .done .given .1) (d .put-decimal .ensures .1)) (a .put-first .ensures)
+
+returns-2 : tie.Need-returns-2
+returns-2 c =
+    let d = c .before .before .before in
+    let s = d .before .before .before in
+    absurd (never _ _ (d .put-decimal .ensures .0) (decimal-few 10 (s .args .n) (omega arith) (omega (arith, s .fits .n))) (c .enum-told .given .1))
+
+pub number-spec : {M : Type 1} → statement M
+number-spec =
+    tie.close
+    (tie.spec
+    slice-aggregate-put-decimal
+    put-decimal-requires
+    enum-known-done
+    slice-aggregate-put-first
+    put-first-requires
+    enum-told
+    same-length
+    returns
+    returns-2)
