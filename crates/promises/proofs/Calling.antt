@@ -32,7 +32,7 @@ use Rattle.process.specs.declared.Event.{Event}
 use Rattle.process.specs.declared.ByteEvent.{ByteEvent}
 use Rattle.runner.specs.declared.Drained.{Drained}
 use Rattle.process.specs.Waiting.{ticked, byteTaken, readingTaken, levelTaken}
-use Rattle.receiving.specs.Recording.{copies}
+use Rattle.recording.specs.Recording.{copies}
 use Rattle.process.specs.Events.{refusalNumber, every, busy, refused, took, withProcesses, tickEvent, readingRight, readingEvent, levelEvent}
 use Rattle.receiving.specs.Receiving.{rangesRight, byteEvent}
 use Rattle.statement.specs.Moving.{moved, cellAt}

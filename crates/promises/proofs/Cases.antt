@@ -17,7 +17,7 @@ use Rattle.accepted.specs.Accepted.{tableRight}
 use Rattle.process.specs.declared.Taken.the-variants as taken
 use Rattle.process.specs.Matching as matching
 use Rattle.process.specs.Waiting as waiting
-use Rattle.receiving.specs.Recording as recording
+use Rattle.recording.specs.Recording as recording
 use Rattle.receiving.specs.Receiving as receiving
 use Rattle.process.specs.Events as events
 use Rattle.joining.specs.Joining as joining

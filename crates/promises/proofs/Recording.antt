@@ -18,7 +18,7 @@ use Rattle.process.specs.declared.Received.the-variants as received
 use Rattle.process.specs.declared.Event.{Event}
 use Rattle.process.specs.declared.ByteEvent.{ByteEvent}
 use Rattle.process.specs.Waiting.{byteTaken}
-use Rattle.receiving.specs.Recording.{copies}
+use Rattle.recording.specs.Recording.{copies}
 use Rattle.process.specs.Events.{busy, withProcesses, tickEvent, readingRight, readingEvent, levelEvent}
 use Rattle.receiving.specs.Receiving.{answeredWith, rangesRight, byteEvent}
 use Rattle.statement.specs.Moving.{moved, cellAt}

@@ -9,7 +9,7 @@ use lib.ListN.{length, take, drop, getD, length-take, drop-of-length-le}
 use lib.Seq.{drop-cons, getD-take}
 use borrow.Author.Tests.{eq-eqb, ne-eqb}
 use Rattle.language.specs.declared.Heads.{Heads}
-use Rattle.receiving.specs.Recording.{oneOf, copies}
+use Rattle.recording.specs.Recording.{oneOf, copies}
 
 -- i of the first n bytes are passed: those from i on decide
 pub record Seeking (bytes : List ℕ) (n b i : ℕ) : Type 0 where

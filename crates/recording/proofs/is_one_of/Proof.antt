@@ -1,12 +1,12 @@
--- `receiving::is_one_of` meets its contract: the bytes from i on decide. Assumes nothing.
+-- `recording::is_one_of` meets its contract: the bytes from i on decide. Assumes nothing.
 use mathlib.Core.Path.{refl}
 use Prim.Native.Nat.{_-_}
 use native.Mathlib.Omega.{arith}
 use borrow.Author.Needs.{needs}
 use lib.ListN.{length}
-use Rattle.receiving.proofs.Copying.{Seeking, seek-enough, seek-past, seek-found, seek-on}
-use Rattle.receiving.proofs.is_one_of.Statement.{statement}
-use Rattle.receiving.proofs.is_one_of.Tie as tie
+use Rattle.recording.proofs.Copying.{Seeking, seek-enough, seek-past, seek-found, seek-on}
+use Rattle.recording.proofs.is_one_of.Statement.{statement}
+use Rattle.recording.proofs.is_one_of.Tie as tie
 
 abbrev Inv-loop : tie.InvT-loop
 Inv-loop bytes count b i₀ i = Seeking bytes count b i

@@ -1,9 +1,9 @@
--- `receiving::recorded` meets its contract. Assumes nothing.
+-- `recording::recorded` meets its contract. Assumes nothing.
 use mathlib.Core.Path.{sym, _∙_}
-use Rattle.receiving.proofs.Copying.{none-paused, none-omitted, twice-encoded, once-other, once-plain}
+use Rattle.recording.proofs.Copying.{none-paused, none-omitted, twice-encoded, once-other, once-plain}
 use borrow.Author.Needs.{needs}
-use Rattle.receiving.proofs.recorded.Statement.{statement}
-use Rattle.receiving.proofs.recorded.Tie as tie
+use Rattle.recording.proofs.recorded.Statement.{statement}
+use Rattle.recording.proofs.recorded.Tie as tie
 
 returns : tie.Need-returns
 returns c = rw (c .if1 .taken) (none-paused (c .before .args .heads) (c .before .args .b))
