@@ -10,3 +10,4 @@ pub mod Texts
 pub mod Lining
 pub mod Ending
 pub mod Folding
+pub mod Asking

@@ -10,22 +10,12 @@ pub(crate) fn asks(cell: Cell) -> Asks
     ensures { λ r. ⌜ r ≡ asksOf cell ⌝ }
 {
     match cell {
-        Cell::Nothing => Asks::Plain,
         Cell::Send(s) => Asks::Sending(s.count),
         Cell::Loop(_) => Asks::Opening,
         Cell::End => Asks::Closing,
-        Cell::WaitTime(_) => Asks::Plain,
         Cell::WaitData(s) => Asks::Awaiting(s.count),
-        Cell::WaitByte(_) => Asks::Plain,
-        Cell::WaitClock(_) => Asks::Plain,
-        Cell::WaitSignal(_) => Asks::Plain,
-        Cell::Rts(_) => Asks::Plain,
         Cell::Log(s) => Asks::Logging(s.count),
-        Cell::Fchange => Asks::Plain,
-        Cell::Pause => Asks::Plain,
-        Cell::Resume => Asks::Plain,
-        Cell::Nop => Asks::Plain,
-        Cell::Unknown => Asks::Plain,
+        _ => Asks::Plain,
     }
 }
 

@@ -27,16 +27,17 @@ use Rattle.process.specs.declared.State.{State}
 use Rattle.process.specs.declared.Refusal.{Refusal}
 use Rattle.process.specs.declared.Refusal.the-variants.{Busy, BadReading, NoSuchSignal, SmallBuffer}
 use Rattle.process.specs.declared.Received.the-variants as received
-use Rattle.runner.specs.declared.Outcome.the-variants.{Quiet, Refused}
+use Rattle.outcome.specs.declared.Outcome.the-variants.{Quiet, Refused}
 use Rattle.process.specs.declared.Event.{Event}
 use Rattle.process.specs.declared.ByteEvent.{ByteEvent}
 use Rattle.runner.specs.declared.Drained.{Drained}
 use Rattle.process.specs.Waiting.{ticked, byteTaken, readingTaken, levelTaken}
-use Rattle.receiving.specs.Recording.{copies}
+use Rattle.recording.specs.Recording.{copies}
 use Rattle.process.specs.Events.{refusalNumber, every, busy, refused, took, withProcesses, tickEvent, readingRight, readingEvent, levelEvent}
 use Rattle.receiving.specs.Receiving.{rangesRight, byteEvent}
 use Rattle.statement.specs.Moving.{moved, cellAt}
-use Rattle.runner.specs.Draining.{lowest, nobody, turn, outcomeOf, writes, stateAfter, unaltered, drained}
+use Rattle.outcome.specs.Saying.{outcomeOf}
+use Rattle.runner.specs.Draining.{lowest, nobody, turn, writes, stateAfter, unaltered, drained}
 use Rattle.starting.specs.Starting.{startAt, started, startState, noCounts, startEvent, startCounts}
 use Rattle.runner.specs.Calls as calls
 use Rattle.runner.specs.Calls.{Box, Call, start, tick, byte, reading, drain, outcome, Called, boxed, answeredBy, receivedBy, startCall}

@@ -17,11 +17,15 @@ use Rattle.accepted.specs.Accepted.{tableRight}
 use Rattle.process.specs.declared.Taken.the-variants as taken
 use Rattle.process.specs.Matching as matching
 use Rattle.process.specs.Waiting as waiting
-use Rattle.receiving.specs.Recording as recording
+use Rattle.recording.specs.Recording as recording
 use Rattle.receiving.specs.Receiving as receiving
 use Rattle.process.specs.Events as events
+use Rattle.joining.specs.Joining as joining
+use Rattle.loops.specs.Loops as looping
 use Rattle.statement.specs.Moving as moving
 use Rattle.record.specs.Logging as logging
+use Rattle.outcome.specs.Saying as saying
+use Rattle.turn.specs.Writing as writes
 use Rattle.runner.specs.Draining as draining
 use Rattle.starting.specs.Starting as starting
 use Rattle.starting.specs.Starting.{startState, noCounts}
@@ -67,7 +71,7 @@ all-say [] e = tt
 all-say (c ∷ cs) e = (says c (e .0), all-say cs (e .1))
 
 computed : AllComputed cases
-unfolding compiled printed writing.times writing.repeated writing.written writing.run answered isByte right.timeRight cell.spanNumber cell.clockNumber cell.coded cell.spanRight cell.unitRight cell.fixedRight cell.cellOf cell.decoded cell.clockFrom table.cellFor table.wordsFrom table.poolOf table.endsFrom table.headsOf table.laidOut matching.progress matching.advance waiting.awake waiting.matchedWait waiting.progressRight recording.oneOf recording.copies events.busy receiving.rangesRight receiving.byteEvent moving.opened moving.again moving.pass moving.closed moving.neighbours moving.theirBytes moving.awaits moving.movedBy moving.moved logging.signText logging.writtenOut logging.recordOf logging.nextCount draining.lowest draining.bytesOf draining.outcomeOf draining.pausedBy draining.countedBy draining.does draining.writes draining.stateAfter draining.drained draining.countsAfter starting.started starting.startedFrom startState calls.called replies
+unfolding compiled printed writing.times writing.repeated writing.written writing.run answered isByte right.timeRight cell.spanNumber cell.clockNumber cell.coded cell.spanRight cell.unitRight cell.fixedRight cell.cellOf cell.decoded cell.clockFrom table.cellFor table.wordsFrom table.poolOf table.endsFrom table.headsOf table.laidOut matching.progress matching.advance waiting.awake waiting.matchedWait waiting.progressRight recording.oneOf recording.copies events.busy receiving.rangesRight receiving.byteEvent looping.opened looping.again looping.pass looping.closed joining.neighbours joining.theirBytes moving.awaits moving.movedBy moving.moved logging.signText logging.writtenOut logging.recordOf logging.nextCount draining.lowest writes.bytesOf saying.outcomeOf saying.pausedBy saying.countedBy draining.does draining.writes draining.stateAfter draining.drained draining.countsAfter starting.started starting.startedFrom startState calls.called replies
 computed =
     (refl, (λ m. refl, (refl, (λ m. refl, (refl, (λ m. refl, (refl, (refl, (refl, (record { stretch = 0; bytes = refl; result = refl; replied = refl }, (refl, (refl, (refl, (refl, (refl, (refl, (record { stretch = 1; bytes = refl; result = refl; replied = refl }, (record { stretch = 1; bytes = refl; result = refl; replied = refl }, (record { stretch = 7; bytes = refl; result = refl; replied = refl }, tt)))))))))))))))))))
 

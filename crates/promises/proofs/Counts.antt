@@ -15,7 +15,8 @@ use Rattle.language.specs.declared.Table.{Table}
 use Rattle.record.specs.Logging.{nextCount}
 use Rattle.process.specs.Events.{any}
 use Rattle.statement.specs.Moving.{cellAt}
-use Rattle.runner.specs.Draining.{turn, countedBy, does, countsAfter}
+use Rattle.outcome.specs.Saying.{countedBy}
+use Rattle.runner.specs.Draining.{turn, does, countsAfter}
 use Rattle.runner.specs.Calls as calls
 use Rattle.runner.specs.Calls.{Box, Call, start, tick, byte, reading, level, drain}
 use Rattle.promises.specs.Replies.{called}

@@ -19,9 +19,9 @@ use Rattle.language.specs.Stretch.{markOf}
 use Rattle.language.specs.Table.{statementOf}
 use Rattle.language.proofs.Cells.{span-fits, code-decode}
 use Rattle.stretch.specs.Marks.{cellMark, wordMark}
-use Rattle.accepted.specs.Tests as tests
+use Rattle.cells_fit.specs.Tests as tests
 use Rattle.cells_fit.specs.Tests.{wordsEnd}
-use Rattle.statement.specs.Moving.{more, bytesIn, neighbours, theirBytes}
+use Rattle.joining.specs.Joining.{more, bytesIn, neighbours, theirBytes}
 
 -- ---- a cell waits for data, or it is another
 

@@ -26,13 +26,14 @@ use Rattle.language.specs.Table.{statementOf}
 use Rattle.stretch.specs.Marks.{cellMark, wordMark, marksBetween}
 use Rattle.stretch.specs.Scan.{marksTo}
 use Rattle.stretch.proofs.Marking.{marks-between, marks-length}
-use Rattle.accepted.specs.Tests as tests
+use Rattle.cells_fit.specs.Tests as tests
 use Rattle.cells_fit.specs.Tests.{follows, cellFits, wordsFit, wordsEnd}
 use Rattle.process.specs.declared.Wait.{Wait}
 use Rattle.process.specs.declared.Wait.the-variants.{Ticks, Bytes, Data, ClockValue, Signal}
 use Rattle.process.specs.declared.Process.{Process}
 use Rattle.process.specs.Waiting.{ready, waitRight, progressRight, sameLevel}
-use Rattle.statement.specs.Moving.{passes, rests, neighbours, theirBytes, awaits, restsUnless, signalled, behind, movedBy, moved}
+use Rattle.joining.specs.Joining.{neighbours, theirBytes}
+use Rattle.statement.specs.Moving.{passes, rests, awaits, restsUnless, signalled, behind, movedBy, moved}
 use Rattle.promises.proofs.Ahead.{Open, onward, ahead}
 use Rattle.promises.proofs.Stands.{Sits, resting, Held, Good}
 use Rattle.promises.proofs.Ways.{rests-good}

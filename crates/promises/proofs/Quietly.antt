@@ -11,7 +11,7 @@ use Rattle.language.specs.declared.Table.{Table}
 use Rattle.language.specs.Limits.{processLimit}
 use Rattle.process.specs.declared.State.{State}
 use Rattle.process.specs.declared.Refusal.the-variants.{SmallBuffer, BadTable}
-use Rattle.runner.specs.declared.Outcome.the-variants.{Quiet, Refused}
+use Rattle.outcome.specs.declared.Outcome.the-variants.{Quiet, Refused}
 use Rattle.runner.specs.declared.Drained.{Drained}
 use Rattle.process.specs.Events.{busy}
 use Rattle.statement.specs.Moving.{moved, cellAt}

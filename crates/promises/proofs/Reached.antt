@@ -14,7 +14,8 @@ use Rattle.language.proofs.Opened.{printed}
 use Rattle.accepted.specs.Accepted.{tableRight}
 use Rattle.process.specs.Waiting.{awake}
 use Rattle.statement.specs.Moving.{restsUnless, movedBy, moved}
-use Rattle.runner.specs.Draining.{lowest, outcomeOf, drained, stateAfter}
+use Rattle.outcome.specs.Saying.{outcomeOf}
+use Rattle.runner.specs.Draining.{lowest, drained, stateAfter}
 use Rattle.starting.specs.Starting.{started, startedFrom, startState, noCounts, startEvent, startCounts}
 use Rattle.runner.specs.Calls as calls
 use Rattle.runner.specs.Calls.{Box, Call, drain, boxed, startCall}

@@ -18,13 +18,14 @@ use Rattle.process.specs.declared.Received.the-variants as received
 use Rattle.process.specs.declared.Event.{Event}
 use Rattle.process.specs.declared.ByteEvent.{ByteEvent}
 use Rattle.process.specs.Waiting.{byteTaken}
-use Rattle.receiving.specs.Recording.{copies}
+use Rattle.recording.specs.Recording.{copies}
 use Rattle.process.specs.Events.{busy, withProcesses, tickEvent, readingRight, readingEvent, levelEvent}
 use Rattle.receiving.specs.Receiving.{answeredWith, rangesRight, byteEvent}
 use Rattle.statement.specs.Moving.{moved, cellAt}
-use Rattle.runner.specs.declared.Outcome.the-variants.{Quiet, Refused}
+use Rattle.outcome.specs.declared.Outcome.the-variants.{Quiet, Refused}
 use Rattle.runner.specs.declared.Drained.{Drained}
-use Rattle.runner.specs.Draining.{lowest, turn, pausedBy, outcomeOf, writes, unaltered, stateAfter, drained}
+use Rattle.outcome.specs.Saying.{pausedBy, outcomeOf}
+use Rattle.runner.specs.Draining.{lowest, turn, writes, unaltered, stateAfter, drained}
 use Rattle.starting.specs.Starting.{startState, startEvent, startCounts}
 use Rattle.runner.specs.Calls as calls
 use Rattle.runner.specs.Calls.{Box, Call, start, tick, byte, reading, level, drain, event, startCall}

@@ -12,7 +12,7 @@ use Rattle.language.specs.Limits.{loopLimit}
 use Rattle.process.specs.declared.Wait.{Wait}
 use Rattle.process.specs.declared.Wait.the-variants.{Ready, Over, Ticks, Bytes, Data, ClockValue, Signal}
 use Rattle.process.specs.declared.Process.{Process}
-use Rattle.statement.specs.declared.Moved.{Moved}
+use Rattle.loops.specs.declared.Moved.{Moved}
 use Rattle.process.specs.Waiting.{readyWait, waitRight}
 use Rattle.promises.proofs.Ahead.{Open, opensOf, ahead}
 

@@ -20,7 +20,8 @@ use Rattle.language.specs.Limits.{loopLimit}
 use Rattle.process.specs.declared.Wait.{Wait}
 use Rattle.process.specs.declared.Process.{Process}
 use Rattle.process.specs.Waiting.{readyWait, ready, waitRight}
-use Rattle.statement.specs.Moving.{passes, rests, opened, pass, closed}
+use Rattle.loops.specs.Loops.{opened, pass, closed}
+use Rattle.statement.specs.Moving.{passes, rests}
 use Rattle.promises.proofs.Ahead.{Open, opensOf, more, whole, onward, ahead, run-less}
 use Rattle.promises.proofs.Stands.{Back, Kept, Sits, resting, Held, Good}
 use Rattle.promises.proofs.Opens.{opens-length, opens-more, opens-less}
@@ -92,7 +93,7 @@ module _ (ms : List Mark) (first k n : ℕ) where
 
     -- ---- LOOP
 
-    pub opened-good : (a : ℕ) → Stands ms (p .place) (opens a) → Good ms first k (suc n) (opened p a)
+    pub opened-good : (a : ℕ) → Stands ms (p .place) (opens a) → Good ms first k (suc n) (opened p (p .place + 1) a)
     unfolding opened nests before written run
     opened-good a s =
         let i : ℕ = p .place + 1 in
@@ -119,7 +120,7 @@ module _ (ms : List Mark) (first k n : ℕ) where
     pass-good : (d l : ℕ) → getD ls d 0 ≡ l → d < loopLimit → length ls ≡ loopLimit → length bs ≡ loopLimit → e ≡ length ms → suc n ≤ suc k →
         Sits ms first (i + 1) (opensOf d ls bs) → Back ms first (readAt ms (i + 1)) (length (opensOf d ls bs)) (getD bs d 0) →
         ((m : ℕ) → run (suc n) (more m l (whole m (fragmentAt ms (getD bs d 0))) ++ ahead ms m (readAt ms (i + 1)) (opensOf d ls bs)) ≤ k) →
-        Good ms first k (suc n) (pass (deep (suc d)) d (getD bs d 0) l)
+        Good ms first k (suc n) (pass (deep (suc d)) (i + 1) d (getD bs d 0) l)
     unfolding pass more repeated times opensOf
     pass-good d zero q dl lsl bsl en c s bk h =
         again-good ms first k (suc n) (getD bs d 0) zero (readAt ms (i + 1)) (opensOf d ls bs) (omega (arith, opens-length d ls bs)) bk (s .kept) h
@@ -130,7 +131,7 @@ module _ (ms : List Mark) (first k n : ℕ) where
         (again-good ms first k (suc n) (getD bs d 0) (suc l) (readAt ms (i + 1)) (opensOf d ls bs) (omega (arith, opens-length d ls bs)) bk (s .kept) h
         (deep (suc d)) en c (set ls d (suc l)) (opens-less d (suc l) ls bs (omega arith)) (length-set ls d (suc l) ∙ lsl) bsl)
 
-    close : (d : ℕ) → Held ms first k n (deep d) → readyWait w ≡ true → Stands ms i closes → Good ms first k (suc n) (closed (deep d))
+    close : (d : ℕ) → Held ms first k n (deep d) → readyWait w ≡ true → Stands ms i closes → Good ms first k (suc n) (closed (deep d) (i + 1))
     unfolding closed nests opensOf before onward written run
     close zero h r s = true-is-false (sym (nested-here (deep zero) h r s))
     close (suc d) h r s =
@@ -142,5 +143,5 @@ module _ (ms : List Mark) (first k n : ℕ) where
         (kp .0)
         (ahead-here (deep (suc d)) h r s))
 
-  pub closed-good : (p : Process) → Held ms first k n p → ready p ≡ true → Stands ms (p .place) closes → Good ms first k (suc n) (closed p)
+  pub closed-good : (p : Process) → Held ms first k n p → ready p ≡ true → Stands ms (p .place) closes → Good ms first k (suc n) (closed p (p .place + 1))
   closed-good p h r s = close (p .place) (p .end) (p .wait) (p .left) (p .back) (p .depth) h r s

@@ -18,7 +18,7 @@ use Rattle.process.specs.declared.Copies.{Copies}
 use Rattle.process.specs.declared.Refusal.{Refusal}
 use Rattle.process.specs.declared.Refusal.the-variants.{Busy, BadReading, NoSuchSignal, SmallBuffer, BadTable}
 use Rattle.process.specs.declared.Received.the-variants as received
-use Rattle.runner.specs.declared.Outcome.the-variants.{Quiet, Refused}
+use Rattle.outcome.specs.declared.Outcome.the-variants.{Quiet, Refused}
 use Rattle.process.specs.declared.Event.{Event}
 use Rattle.process.specs.declared.ByteEvent.{ByteEvent}
 use Rattle.runner.specs.declared.Drained.{Drained}
@@ -26,7 +26,8 @@ use Rattle.process.specs.Waiting.{byteTaken}
 use Rattle.process.specs.Events.{busy, refused, took, tickEvent, readingRight, readingEvent, levelEvent}
 use Rattle.receiving.specs.Receiving.{answeredWith, rangesRight, byteEvent}
 use Rattle.statement.specs.Moving.{moved, cellAt}
-use Rattle.runner.specs.Draining.{lowest, nobody, turn, outcomeOf, does, writes, unaltered, stateAfter, drained, countsAfter}
+use Rattle.outcome.specs.Saying.{outcomeOf}
+use Rattle.runner.specs.Draining.{lowest, nobody, turn, does, writes, unaltered, stateAfter, drained, countsAfter}
 use Rattle.runner.specs.Calls as calls
 use Rattle.runner.specs.Calls.{Box, Call, start, tick, byte, reading, level, drain, answeredBy, receivedBy}
 use Rattle.promises.specs.Replies.{called}

@@ -19,7 +19,9 @@ use Rattle.process.specs.declared.Wait.{Wait}
 use Rattle.process.specs.declared.Wait.the-variants.{Ready, Over, Ticks, Bytes, Data, ClockValue, Signal}
 use Rattle.process.specs.declared.Process.{Process}
 use Rattle.process.specs.Waiting.{readyWait, waitRight, awake}
-use Rattle.statement.specs.Moving.{goes, again, restsAt}
+use Rattle.loops.specs.Ways.{goes}
+use Rattle.loops.specs.Loops.{again}
+use Rattle.statement.specs.Moving.{restsAt}
 use Rattle.promises.proofs.Ahead.{Open, opensOf, whole, onward, ahead, run-less, enter}
 use Rattle.promises.proofs.Stands.{Back, Kept, Sits, resting, Fine, Good}
 

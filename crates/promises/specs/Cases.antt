@@ -22,7 +22,7 @@ use Rattle.language.specs.Answer.{numberOf, compiled}
 use Rattle.accepted.specs.Accepted.{tableRight}
 use Rattle.process.specs.declared.Taken.the-variants as taken
 use Rattle.process.specs.declared.Received.the-variants as received
-use Rattle.runner.specs.declared.Outcome.the-variants.{Quiet, Sent, Recorded, Plain}
+use Rattle.outcome.specs.declared.Outcome.the-variants.{Quiet, Sent, Recorded, Plain}
 use Rattle.runner.specs.Calls as calls
 use Rattle.runner.specs.Calls.{Box, Call, start, byte, drain, Reply, event, outcome, replies}
 

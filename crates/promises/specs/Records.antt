@@ -21,10 +21,10 @@ use Rattle.process.specs.declared.Received.the-variants as received
 use Rattle.process.specs.declared.Copies.{Copies}
 use Rattle.process.specs.Waiting.{awake, matches, readingWait, sameLevel, sets, levelWait}
 use Rattle.process.specs.Events.{any}
-use Rattle.receiving.specs.Recording.{copies}
+use Rattle.recording.specs.Recording.{copies}
 use Rattle.statement.specs.Moving.{passes, rests, signalled, cellAt}
-use Rattle.runner.specs.declared.Outcome.{Outcome}
-use Rattle.runner.specs.declared.Outcome.the-variants.{Quiet, Sent, Recorded, Rts, Fchange, Pause, Resume, Plain, Refused}
+use Rattle.outcome.specs.declared.Outcome.{Outcome}
+use Rattle.outcome.specs.declared.Outcome.the-variants.{Quiet, Sent, Recorded, Rts, Fchange, Pause, Resume, Plain, Refused}
 use Rattle.runner.specs.Draining.{turn, does}
 use Rattle.runner.specs.Calls as calls
 use Rattle.runner.specs.Calls.{Box, Call, start, tick, byte, reading, level, drain, Reply, event, outcome}

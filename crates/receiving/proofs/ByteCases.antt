@@ -11,7 +11,7 @@ use Rattle.process.specs.declared.Refusal.the-variants.{Busy, BadTable}
 use Rattle.process.specs.declared.Received.the-variants.{Took, Refused}
 use Rattle.process.specs.Waiting.{ready, byteTaken, rangeRight}
 use Rattle.process.specs.Events.{any, every, busy, withProcesses}
-use Rattle.receiving.specs.Recording.{copies}
+use Rattle.recording.specs.Recording.{copies}
 use Rattle.receiving.specs.Receiving.{answeredWith, rangesRight, byteEvent}
 
 module _ (pool : List ℕ) (h : Heads) (s : State) (b : ℕ) where

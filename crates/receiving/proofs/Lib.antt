@@ -1,4 +1,3 @@
 pub mod DataCases
 pub mod Overlaps
-pub mod Copying
 pub mod ByteCases

@@ -1,3 +1,2 @@
 -- Document 01, "Running": a received byte.
-pub mod Recording
 pub mod Receiving

@@ -12,7 +12,7 @@ use Rattle.process.specs.declared.Received.the-variants as received
 use Rattle.process.specs.declared.ByteEvent.{ByteEvent}
 use Rattle.process.specs.Waiting.{byteTaken, rangeRight}
 use Rattle.process.specs.Events.{every, busy, withProcesses}
-use Rattle.receiving.specs.Recording.{copies}
+use Rattle.recording.specs.Recording.{copies}
 
 -- what the byte event must use lies within the table: the data of each wait, and the OMIT bytes
 unfoldable pub rangesRight : Heads → State → Bool

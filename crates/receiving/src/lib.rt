@@ -3,10 +3,9 @@ ghost use mathlib.Core.Path.{_≡_};
 ghost use mathlib.Core.Bool.{true};
 ghost use mathlib.Core.List.{map};
 ghost use Prim.Native.Nat.{_+_, _≤_};
-ghost use lib.ListN.{length, take};
+ghost use lib.ListN.{length};
 ghost use Rattle.process.specs.Matching.{advance};
 ghost use Rattle.process.specs.Waiting.{awaited, matchedWait, byteWait, byteTaken, progressRight, waitRight, rangeRight};
-ghost use Rattle.receiving.specs.Recording.{oneOf, copies};
 ghost use Rattle.process.specs.Events.{every};
 ghost use Rattle.receiving.specs.Receiving.{answeredWith, byteEvent};
 use language::Heads;
@@ -23,6 +22,7 @@ use process::Wait;
 use process::taking::any_ready;
 use process::waits::awaken;
 use process::waits::both;
+use recording::recorded;
 
 mod matching;
 
@@ -99,9 +99,6 @@ fn wait_byte(w: Wait, pool: &Pool, b: u8, place: u16, end: u16) -> Wait
     ensures { λ r. ⌜ r ≡ byteWait (now (pool .entry)) b place end w ⌝ }
 {
     match w {
-        Wait::Ready => w,
-        Wait::Over => w,
-        Wait::Ticks(_) => w,
         Wait::Bytes(n) => {
             if n <= 1 {
                 return awaken(place, end);
@@ -109,8 +106,7 @@ fn wait_byte(w: Wait, pool: &Pool, b: u8, place: u16, end: u16) -> Wait
             Wait::Bytes(n - 1)
         }
         Wait::Data(m) => match_byte(pool, m, b, place, end),
-        Wait::ClockValue(_) => w,
-        Wait::Signal(_) => w,
+        _ => w,
     }
 }
 
@@ -142,23 +138,6 @@ fn all_right(ps: [Process; PROCESSES]) -> bool
     true
 }
 
-// Whether a byte is one of the first of some.
-fn is_one_of(bytes: &[u8], count: usize, b: u8) -> bool
-    ensures { λ r. ⌜ r ≡ oneOf (take count (now (bytes .entry))) b ⌝ }
-{
-    let mut i = 0usize;
-    while i < bytes.len() {
-        if count <= i {
-            return false;
-        }
-        if bytes[i] == b {
-            return true;
-        }
-        i += 1;
-    }
-    false
-}
-
 fn all_byte(ps: [Process; PROCESSES], pool: &Pool, b: u8) -> [Process; PROCESSES]
     requires { ⌜ every rangeRight ps ≡ true ⌝ }
     ensures { λ r. ⌜ r ≡ map (byteTaken (now (pool .entry)) b) ps ⌝ }
@@ -171,26 +150,6 @@ fn all_byte(ps: [Process; PROCESSES], pool: &Pool, b: u8) -> [Process; PROCESSES
     next
 }
 
-// How often a byte is recorded: "not at all if paused or in OMIT; in all other cases twice if it is the ENCODE byte".
-fn recorded(heads: Heads, paused: bool, b: u8) -> u8
-    ensures { λ r. ⌜ r ≡ copies heads paused b ⌝ }
-{
-    if paused {
-        return 0;
-    }
-    let omit = heads.omit;
-    if is_one_of(&omit, heads.omits as usize, b) {
-        return 0;
-    }
-    if heads.encodes {
-        if heads.encode == b {
-            return 2;
-        }
-        return 1;
-    }
-    1
-}
-
 fn answer(s: State, a: Received) -> ByteEvent
     ensures { λ r. ⌜ r ≡ answeredWith s a ⌝ }
 {
@@ -200,23 +159,32 @@ fn answer(s: State, a: Received) -> ByteEvent
     }
 }
 
+// A received byte, where the table is right: 21 while a process is ready.
+fn take(pool: &Pool, heads: Heads, s: State, b: u8) -> ByteEvent
+    requires { ⌜ (heads .omits ≤ 10) × (every rangeRight (s .processes) ≡ true) ⌝ }
+    ensures { λ r. ⌜ r ≡ byteEvent (now (pool .entry)) heads s b ⌝ }
+{
+    let ps = s.processes;
+    if any_ready(ps) {
+        return answer(s, Received::Refused(Refusal::Busy));
+    }
+    let count = recorded(heads, s.paused, b);
+    let next = all_byte(ps, pool, b);
+    let mut t = s;
+    t.processes = next;
+    answer(t, Received::Took(Copies { count }))
+}
+
 // A received byte.
 pub fn receive(pool: &Pool, heads: Heads, s: State, b: u8) -> ByteEvent
     ensures { λ r. ⌜ r ≡ byteEvent (now (pool .entry)) heads s b ⌝ }
 {
-    let ps = s.processes;
     if 10 < heads.omits {
         return answer(s, Received::Refused(Refusal::BadTable));
     }
+    let ps = s.processes;
     if all_right(ps) {
-        if any_ready(ps) {
-            return answer(s, Received::Refused(Refusal::Busy));
-        }
-        let count = recorded(heads, s.paused, b);
-        let next = all_byte(ps, pool, b);
-        let mut t = s;
-        t.processes = next;
-        return answer(t, Received::Took(Copies { count }));
+        return take(pool, heads, s, b);
     }
     answer(s, Received::Refused(Refusal::BadTable))
 }

@@ -1,9 +1,9 @@
 // The line that tells an outcome, written into a lent buffer.
 use super::output::first;
+use outcome::Outcome;
 use process::Received;
 use process::Refusal;
 use process::Taken;
-use runner::Outcome;
 use writer::Put;
 use writer::put_bytes;
 use writer::put_decimal;

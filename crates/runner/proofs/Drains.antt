@@ -1,26 +1,23 @@
--- What the drain answers and leaves, by each way that the code can go. Assumes nothing.
-use Prim.Native.Nat.{ℕ, _≤_, _<_}
+-- What the drain answers and leaves: none is ready, or the lowest-numbered ready process has its turn. Assumes nothing.
+use Prim.Native.Nat.{ℕ, zero, suc, _≤_, _<_}
 use mathlib.Core.Path.{_≡_, refl, sym, ap, ap₂, _∙_}
 use mathlib.Core.Bool.{Bool, true, false, cond}
-use mathlib.Core.List.{List}
+use mathlib.Core.List.{List, [], _∷_}
 use native.Mathlib.Omega.{arith}
 use lib.Dec.{ltb}
 use lib.ListN.{length, getD, set}
-use lib.Seq.{sets}
-use borrow.Author.Tests.{lt-ltb, le-ltb, ltb-true}
-use Rattle.reader.proofs.Tests.{true-is-false}
-use Rattle.language.specs.declared.Cell.{Cell}
-use Rattle.language.specs.Limits.{linesLimit, processLimit}
-use Rattle.language.specs.Cell.{decoded}
+use borrow.Author.Tests.{lt-ltb, le-ltb}
+use Rattle.language.specs.Limits.{processLimit}
 use Rattle.process.specs.declared.Process.{Process}
 use Rattle.process.specs.declared.State.{State}
-use Rattle.statement.specs.declared.Moved.{Moved}
 use Rattle.process.specs.declared.Refusal.the-variants.{SmallBuffer, BadTable}
-use Rattle.statement.specs.Moving.{moved, movedBy, cellAt, astray}
-use Rattle.runner.specs.declared.Outcome.{Outcome}
-use Rattle.runner.specs.declared.Outcome.the-variants.{Quiet, Refused}
+use Rattle.statement.specs.Moving.{moved, cellAt}
+use Rattle.outcome.specs.declared.Outcome.{Outcome}
+use Rattle.outcome.specs.declared.Outcome.the-variants.{Quiet, Refused}
+use Rattle.turn.specs.declared.Turn.{Turn}
+use Rattle.turn.specs.Turns.{stays, turned, bufferTurned, countsTurned}
 use Rattle.runner.specs.declared.Drained.{Drained}
-use Rattle.runner.specs.Draining.{lowest, nobody, turn, bytesOf, outcomeOf, pausedBy, countedBy, does, writes, stateAfter, unaltered, drained, bufferAfter, countsAfter}
+use Rattle.runner.specs.Draining.{lowest, nobody, turn, does, writes, stateAfter, unaltered, drained, bufferAfter, countsAfter}
 use Rattle.runner.specs.Parts.{stepped, idled}
 
 pub idle-small : (s : State) (room : ℕ) → room < 128 → unaltered s (Refused SmallBuffer) ≡ idled s room
@@ -31,20 +28,11 @@ pub idle-quiet : (s : State) (room : ℕ) → 128 ≤ room → unaltered s Quiet
 unfolding idled
 idle-quiet s room h = let k : 127 < room = omega arith in rw (lt-ltb 127 room k)
 
--- a statement that is found lies within the table
-pub found-inside : (cells : List ℕ) (levels : List Bool) (p : Process) {m : Moved} → m ≡ moved cells levels p → m .found ≡ true → p .place < linesLimit
-unfolding moved
-found-inside cells levels p {m} e f = go (ltb (p .place) linesLimit) refl (sym (ap (λ (x : Moved). x .found) e) ∙ f)
-  where
-    go : (t : Bool) → ltb (p .place) linesLimit ≡ t
-        → cond t (cond (ltb (p .place) (p .end)) (movedBy cells levels p (cellAt cells p)) (astray p)) (astray p) .found ≡ true
-        → p .place < linesLimit
-    go true e g = ltb-true (p .place) linesLimit e
-    go false e g = true-is-false (sym g)
-
--- the process that the code took is the one whose turn it is
-pub the-turn : (s : State) {i : ℕ} {p : Process} → i ≡ lowest (s .processes) → p ≡ getD (s .processes) i nobody → p ≡ turn s
-the-turn s e f = f ∙ ap (λ (k : ℕ). getD (s .processes) k nobody) e
+-- what is put where it stood alters nothing
+set-back : {A : Type 0} (l : List A) (i : ℕ) (d : A) → set l i (getD l i d) ≡ l
+set-back [] i d = refl
+set-back (x ∷ l) zero d = refl
+set-back (x ∷ l) (suc i) d = ap (_∷_ x) (set-back l i d)
 
 module _ (cells pool : List ℕ) (s : State) (counts out : List ℕ) where
   -- the answer, and what the lent buffer and the lent counts hold at the end
@@ -60,56 +48,39 @@ module _ (cells pool : List ℕ) (s : State) (counts out : List ℕ) where
       let t = le-ltb (lowest (s .processes)) processLimit k in
       (a ∙ rw t, rw t, rw t)
 
-  module _ {i : ℕ} {p : Process} {m : Moved} (low : i ≡ lowest (s .processes)) (inside : i < 8) (is : p ≡ turn s)
-      (step : m ≡ moved cells (s .levels) p) where
-    turned : ltb (lowest (s .processes)) processLimit ≡ true
-    turned = let k : lowest (s .processes) < processLimit = omega arith in lt-ltb (lowest (s .processes)) processLimit k
+  -- the state and the outcome after a turn
+  abbrev after : Turn → Drained
+  after t = record { state = stepped s (lowest (s .processes)) (t .process) (t .paused); outcome = t .outcome }
 
-    moves : m ≡ moved cells (s .levels) (turn s)
-    moves = step ∙ ap (moved cells (s .levels)) is
+  -- a refusal puts the process back
+  back : (o : Outcome) → after (record { process = turn s; paused = s .paused; outcome = o }) ≡ unaltered s o
+  back o = ap (λ (l : List Process). unaltered (record { processes = l; reading = s .reading; levels = s .levels; paused = s .paused }) o) (set-back (s .processes) (lowest (s .processes)) nobody)
 
-    told : (b : Bool) → m .found ≡ b → moved cells (s .levels) (turn s) .found ≡ b
-    told b f = sym (ap (λ (x : Moved). x .found) moves) ∙ f
+  by-turn : (found room : Bool) (t : Turn)
+      → after (cond found (cond room t (stays (turn s) (s .paused) SmallBuffer)) (stays (turn s) (s .paused) BadTable))
+      ≡ cond found (cond room (after t) (unaltered s (Refused SmallBuffer))) (unaltered s (Refused BadTable))
+  by-turn true true t = refl
+  by-turn true false t = back (Refused SmallBuffer)
+  by-turn false room t = back (Refused BadTable)
 
-    -- 25
-    pub astray-drains : {r : Drained} → m .found ≡ false → r ≡ unaltered s (Refused BadTable) → Drains r out counts
-    unfolding drained bufferAfter countsAfter does
-    astray-drains f a = (a ∙ rw (turned, told false f), rw (turned, told false f), rw (turned, told false f))
+  -- the lowest-numbered ready process has its turn
+  module _ {i : ℕ} {p : Process} (low : i ≡ lowest (s .processes)) (inside : i < 8) (is : p ≡ getD (s .processes) i nobody) where
+    turned-low : ltb (lowest (s .processes)) processLimit ≡ true
+    turned-low = let k : lowest (s .processes) < processLimit = omega arith in lt-ltb (lowest (s .processes)) processLimit k
 
-    -- 24
-    pub small-drains : {r : Drained} → m .found ≡ true → length out < 128 → r ≡ unaltered s (Refused SmallBuffer) → Drains r out counts
-    unfolding drained bufferAfter countsAfter does
-    small-drains f h a =
-        let k : length out ≤ 127 = omega arith in
-        let t = le-ltb 127 (length out) k in
-        (a ∙ rw (turned, told true f, t), rw (turned, told true f, t), rw (turned, told true f, t))
+    the-turn : p ≡ turn s
+    the-turn = is ∙ ap (λ (k : ℕ). getD (s .processes) k nobody) low
 
-    -- one statement
-    module _ {at : ℕ} {c : Cell} (place : at ≡ p .place) (cell : c ≡ decoded (getD cells at 0)) where
-      at-turn : at ≡ turn s .place
-      at-turn = place ∙ ap (λ (q : Process). q .place) is
-
-      cell-turn : c ≡ cellAt cells (turn s)
-      cell-turn = cell ∙ ap (λ (a : ℕ). decoded (getD cells a 0)) at-turn
-
-      stated : {t : State} {paused : Bool} → paused ≡ pausedBy (s .paused) c → t ≡ stepped s i (m .process) paused → t ≡ stateAfter cells s
-      unfolding stateAfter
-      stated {paused = paused} u e =
-          let q : m .process ≡ moved cells (s .levels) (turn s) .process = ap (λ (y : Moved). y .process) moves in
-          let v : paused ≡ pausedBy (s .paused) (cellAt cells (turn s)) = u ∙ ap (pausedBy (s .paused)) cell-turn in
-          e ∙ rw (low, q, v)
-
-      pub does-drain : {t : State} {o : Outcome} {x k : List ℕ} {paused : Bool} → m .found ≡ true → 128 ≤ length out
-          → (o ≡ outcomeOf (length (bytesOf pool (s .reading) (getD counts at 0) c)) c) × (x ≡ sets out 0 (bytesOf pool (s .reading) (getD counts at 0) c)) × (k ≡ set counts at (countedBy (getD counts at 0) c))
-          → paused ≡ pausedBy (s .paused) c → t ≡ stepped s i (m .process) paused → Drains (record { state = t; outcome = o }) x k
-      unfolding drained bufferAfter countsAfter does writes
-      does-drain f h w u e =
-          let n : 127 < length out = omega arith in
-          let l = lt-ltb 127 (length out) n in
-          let o′ = w .0 ∙ ap₂ (λ (a : ℕ) (y : Cell). outcomeOf (length (bytesOf pool (s .reading) (getD counts a 0) y)) y) at-turn cell-turn in
-          let x′ = w .1 ∙ ap₂ (λ (a : ℕ) (y : Cell). sets out 0 (bytesOf pool (s .reading) (getD counts a 0) y)) at-turn cell-turn in
-          let k′ = w .2 ∙ ap₂ (λ (a : ℕ) (y : Cell). set counts a (countedBy (getD counts a 0) y)) at-turn cell-turn in (
-            ap₂ (λ (y : State) (z : Outcome). record { state = y; outcome = z }) (stated u e) o′ ∙ rw (turned, told true f, l),
-            x′ ∙ rw (turned, told true f, l),
-            k′ ∙ rw (turned, told true f, l),
-          )
+    pub turn-drains : {t : Turn} {z : State} {x k : List ℕ}
+        → (t ≡ turned cells pool (s .levels) (s .reading) (s .paused) counts p (length out)) × (x ≡ bufferTurned cells pool (s .levels) (s .reading) counts p out) × (k ≡ countsTurned cells (s .levels) counts p (length out))
+        → z ≡ stepped s i (t .process) (t .paused) → Drains (record { state = z; outcome = t .outcome }) x k
+    unfolding drained bufferAfter countsAfter does writes stateAfter turned bufferTurned countsTurned
+    turn-drains {t} w e =
+        let t′ = w .0 ∙ ap (λ (q : Process). turned cells pool (s .levels) (s .reading) (s .paused) counts q (length out)) the-turn in
+        let x′ = w .1 ∙ ap (λ (q : Process). bufferTurned cells pool (s .levels) (s .reading) counts q out) the-turn in
+        let k′ = w .2 ∙ ap (λ (q : Process). countsTurned cells (s .levels) counts q (length out)) the-turn in
+        let z′ = e ∙ ap (λ (n : ℕ). stepped s n (t .process) (t .paused)) low in (
+          ap (λ (y : State). record { state = y; outcome = t .outcome }) z′ ∙ ap after t′ ∙ by-turn (moved cells (s .levels) (turn s) .found) (ltb 127 (length out)) _ ∙ rw turned-low,
+          x′ ∙ rw turned-low,
+          k′ ∙ rw turned-low,
+        )

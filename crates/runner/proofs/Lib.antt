@@ -1,3 +1,2 @@
 pub mod Lowest
-pub mod Written
 pub mod Drains

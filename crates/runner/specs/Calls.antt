@@ -7,7 +7,7 @@ use Rattle.process.specs.declared.Reading.{Reading}
 use Rattle.process.specs.declared.State.{State}
 use Rattle.process.specs.declared.Taken.{Taken}
 use Rattle.process.specs.declared.Received.{Received}
-use Rattle.runner.specs.declared.Outcome.{Outcome}
+use Rattle.outcome.specs.declared.Outcome.{Outcome}
 use Rattle.process.specs.declared.Event.{Event}
 use Rattle.process.specs.declared.ByteEvent.{ByteEvent}
 use Rattle.process.specs.Events.{tickEvent, readingEvent, levelEvent}

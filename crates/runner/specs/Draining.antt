@@ -6,24 +6,20 @@ use mathlib.Core.List.{List, [], _∷_}
 use lib.ListN.{length, getD, set, replicate}
 use lib.Seq as seq
 use lib.Dec.{ltb}
-use Rattle.language.specs.declared.Span.{Span}
-use Rattle.language.specs.declared.Cell.{Cell}
-use Rattle.language.specs.declared.Cell.the-variants as cell
 use Rattle.language.specs.Limits.{loopLimit, processLimit}
-use Rattle.language.specs.Table.{dataAt}
 use Rattle.process.specs.declared.Reading.{Reading}
 use Rattle.process.specs.declared.Wait.the-variants.{Over}
 use Rattle.process.specs.declared.Process.{Process}
 use Rattle.process.specs.declared.State.{State}
 use Rattle.process.specs.declared.Refusal.{Refusal}
 use Rattle.process.specs.declared.Refusal.the-variants.{SmallBuffer, BadTable}
-use Rattle.runner.specs.declared.Outcome.{Outcome}
-use Rattle.runner.specs.declared.Outcome.the-variants.{Quiet, Sent, Recorded, Rts, Fchange, Pause, Resume, Plain, Refused}
+use Rattle.outcome.specs.declared.Outcome.{Outcome}
+use Rattle.outcome.specs.declared.Outcome.the-variants.{Quiet, Refused}
 use Rattle.runner.specs.declared.Drained.{Drained}
-use Rattle.statement.specs.declared.Moved.{Moved}
 use Rattle.process.specs.Waiting.{ready}
 use Rattle.statement.specs.Moving.{moved, cellAt}
-use Rattle.record.specs.Logging.{recordOf, nextCount}
+use Rattle.outcome.specs.Saying.{outcomeOf, pausedBy, countedBy}
+use Rattle.turn.specs.Writing.{bytesOf}
 
 -- the number, from 0, of the first process that is ready; their number where none is
 unfoldable pub lowest : List Process → ℕ
@@ -37,86 +33,6 @@ nobody = record { place = 0; end = 0; depth = 0; left = replicate loopLimit 0; b
 -- the process whose turn it is
 abbrev pub turn : State → Process
 turn s = getD (s .processes) (lowest (s .processes)) nobody
-
--- ---- what a statement says, and what it writes
-
--- the bytes that it sends or records
-unfoldable pub bytesOf : List ℕ → Reading → ℕ → Cell → List ℕ
-bytesOf pool r count cell.Nothing = []
-bytesOf pool r count (cell.Send s) = dataAt pool s
-bytesOf pool r count (cell.Loop n) = []
-bytesOf pool r count cell.End = []
-bytesOf pool r count (cell.WaitTime n) = []
-bytesOf pool r count (cell.WaitData s) = []
-bytesOf pool r count (cell.WaitByte n) = []
-bytesOf pool r count (cell.WaitClock c) = []
-bytesOf pool r count (cell.WaitSignal l) = []
-bytesOf pool r count (cell.Rts on) = []
-bytesOf pool r count (cell.Log s) = recordOf r count (dataAt pool s)
-bytesOf pool r count cell.Fchange = []
-bytesOf pool r count cell.Pause = []
-bytesOf pool r count cell.Resume = []
-bytesOf pool r count cell.Nop = []
-bytesOf pool r count cell.Unknown = []
-
--- what it says, n bytes being written
-unfoldable pub outcomeOf : ℕ → Cell → Outcome
-outcomeOf n cell.Nothing = Plain
-outcomeOf n (cell.Send s) = Sent (record { bytes = n })
-outcomeOf n (cell.Loop k) = Plain
-outcomeOf n cell.End = Plain
-outcomeOf n (cell.WaitTime k) = Plain
-outcomeOf n (cell.WaitData s) = Plain
-outcomeOf n (cell.WaitByte k) = Plain
-outcomeOf n (cell.WaitClock c) = Plain
-outcomeOf n (cell.WaitSignal l) = Plain
-outcomeOf n (cell.Rts on) = Rts (record { on = on })
-outcomeOf n (cell.Log s) = Recorded (record { bytes = n })
-outcomeOf n cell.Fchange = Fchange
-outcomeOf n cell.Pause = Pause
-outcomeOf n cell.Resume = Resume
-outcomeOf n cell.Nop = Plain
-outcomeOf n cell.Unknown = Plain
-
--- "PAUSE and RESUME act from the next byte"
-unfoldable pub pausedBy : Bool → Cell → Bool
-pausedBy paused cell.Nothing = paused
-pausedBy paused (cell.Send s) = paused
-pausedBy paused (cell.Loop n) = paused
-pausedBy paused cell.End = paused
-pausedBy paused (cell.WaitTime n) = paused
-pausedBy paused (cell.WaitData s) = paused
-pausedBy paused (cell.WaitByte n) = paused
-pausedBy paused (cell.WaitClock c) = paused
-pausedBy paused (cell.WaitSignal l) = paused
-pausedBy paused (cell.Rts on) = paused
-pausedBy paused (cell.Log s) = paused
-pausedBy paused cell.Fchange = paused
-pausedBy paused cell.Pause = true
-pausedBy paused cell.Resume = false
-pausedBy paused cell.Nop = paused
-pausedBy paused cell.Unknown = paused
-
--- "Each LOG statement has its own `@c`"
-unfoldable pub countedBy : ℕ → Cell → ℕ
-countedBy n cell.Nothing = n
-countedBy n (cell.Send s) = n
-countedBy n (cell.Loop k) = n
-countedBy n cell.End = n
-countedBy n (cell.WaitTime k) = n
-countedBy n (cell.WaitData s) = n
-countedBy n (cell.WaitByte k) = n
-countedBy n (cell.WaitClock c) = n
-countedBy n (cell.WaitSignal l) = n
-countedBy n (cell.Rts on) = n
-countedBy n (cell.Log s) = nextCount n
-countedBy n cell.Fchange = n
-countedBy n cell.Pause = n
-countedBy n cell.Resume = n
-countedBy n cell.Nop = n
-countedBy n cell.Unknown = n
-
--- ---- the drain
 
 -- the drain does a statement: one is ready, found within the table, and the buffer has 128 bytes
 unfoldable pub does : List ℕ → State → ℕ → Bool

@@ -1,2 +1,1 @@
 pub mod MoveCases
-pub mod Neighbours

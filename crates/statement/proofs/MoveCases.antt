@@ -1,63 +1,30 @@
 -- What the definitions of moving come to, case by case: a proof cites a case. Assumes nothing.
-use Prim.Native.Nat.{ℕ, _+_, _-_, _≤_, _<_}
-use mathlib.Core.Path.{_≡_}
+use Prim.Native.Nat.{ℕ, _+_, _≤_, _<_}
+use mathlib.Core.Path.{_≡_, refl}
 use mathlib.Core.Bool.{Bool, true, false}
-use mathlib.Core.List.{List}
-use lib.ListN.{getD, set}
+use mathlib.Core.List.{List, [], _∷_}
+use lib.ListN.{getD}
 use borrow.Author.Tests.{lt-ltb, le-ltb, le-leb, lt-leb, eq-eqb, ne-eqb}
+use types.Run.{OneOf, miss}
+use denote.Enum.Declared.{tagOf}
+use Rattle.language.specs.declared.Cell.{Cell}
+use Rattle.language.specs.declared.Cell.the-variants.{Nothing, Send, Loop, End, WaitTime, WaitData, WaitByte, WaitClock, WaitSignal, Rts, Log, Fchange, Pause, Resume, Nop, Unknown}
+use Rattle.language.proofs.Cell.{the-type}
 use Rattle.language.specs.declared.Level.{Level}
 use Rattle.language.specs.declared.Span.{Span}
-use Rattle.language.specs.Limits.{linesLimit, dataLimit, loopLimit}
+use Rattle.language.specs.Limits.{linesLimit, dataLimit}
 use Rattle.process.specs.declared.Wait.{Wait}
 use Rattle.process.specs.declared.Wait.the-variants.{Data, Signal}
 use Rattle.process.specs.declared.Process.{Process}
 use Rattle.process.specs.Waiting.{sameLevel}
-use Rattle.statement.specs.Moving.{astray, goes, passes, restsAt, rests, opened, again, pass, closed, awaits, restsUnless, signalled, movedBy, cellAt, moved}
+use Rattle.loops.specs.Ways.{astray}
+use Rattle.statement.specs.Moving.{passes, restsAt, rests, awaits, restsUnless, signalled, movedBy, cellAt, moved}
+
+-- the variants of the code's last arm, by their tags
+abbrev passing : List ℕ
+passing = 1 ∷ 9 ∷ 10 ∷ 11 ∷ 12 ∷ 13 ∷ 14 ∷ []
 
 module _ (p : Process) where
-  pub open-room : (n : ℕ) → p .depth < loopLimit
-      → goes p (p .place + 1) (p .depth + 1) (set (p .left) (p .depth) n) (set (p .back) (p .depth) (p .place + 1)) ≡ opened p n
-  unfolding opened
-  open-room n h = rw (lt-ltb (p .depth) loopLimit h)
-
-  pub open-ninth : (n : ℕ) → loopLimit ≤ p .depth → astray p ≡ opened p n
-  unfolding opened
-  open-ninth n h = rw (le-ltb (p .depth) loopLimit h)
-
-  pub back-inside : (body : ℕ) (left : List ℕ) → body < p .end → goes p body (p .depth) left (p .back) ≡ again p body left
-  unfolding again
-  back-inside body left h = rw (lt-ltb body (p .end) h)
-
-  pub back-outside : (body : ℕ) (left : List ℕ) → p .end ≤ body → astray p ≡ again p body left
-  unfolding again
-  back-outside body left h = rw (le-ltb body (p .end) h)
-
-  module _ (top body n : ℕ) where
-    pub pass-ever : n ≡ 0 → again p body (p .left) ≡ pass p top body n
-    unfolding pass
-    pass-ever h = rw (eq-eqb n 0 h)
-
-    pub pass-last : (n ≡ 0 → ⊥) → n ≡ 1 → goes p (p .place + 1) top (p .left) (p .back) ≡ pass p top body n
-    unfolding pass
-    pass-last h k = rw (ne-eqb n 0 h, eq-eqb n 1 k)
-
-    pub pass-more : (n ≡ 0 → ⊥) → (n ≡ 1 → ⊥) → again p body (set (p .left) top (n - 1)) ≡ pass p top body n
-    unfolding pass
-    pass-more h k = rw (ne-eqb n 0 h, ne-eqb n 1 k)
-
-  pub close-none : p .depth ≡ 0 → astray p ≡ closed p
-  unfolding closed
-  close-none h = rw (eq-eqb (p .depth) 0 h)
-
-  pub close-nine : (p .depth ≡ 0 → ⊥) → loopLimit < p .depth → astray p ≡ closed p
-  unfolding closed
-  close-nine h k = rw (ne-eqb (p .depth) 0 h, lt-leb (p .depth) loopLimit k)
-
-  pub close-one : (p .depth ≡ 0 → ⊥) → p .depth ≤ loopLimit
-      → pass p (p .depth - 1) (getD (p .back) (p .depth - 1) 0) (getD (p .left) (p .depth - 1) 0) ≡ closed p
-  unfolding closed
-  close-one h k = rw (ne-eqb (p .depth) 0 h, le-leb (p .depth) loopLimit k)
-
   pub zero-passes : (n : ℕ) (w : Wait) → n ≡ 0 → passes p ≡ restsUnless p n w
   unfolding restsUnless
   zero-passes n w h = rw (eq-eqb n 0 h)
@@ -96,3 +63,23 @@ module _ (p : Process) where
     pub step-out : linesLimit ≤ p .place → astray p ≡ moved cells levels p
     unfolding moved
     step-out h = rw (le-ltb (p .place) linesLimit h)
+
+    -- the statements that do no more than pass, by their tags
+    pub other-passes : (c : Cell) → OneOf passing (tagOf the-type c) → passes p ≡ movedBy cells levels p c
+    unfolding movedBy
+    other-passes Nothing h = absurd (miss passing 0 tt h)
+    other-passes (Send s) h = refl
+    other-passes (Loop n) h = absurd (miss passing 2 tt h)
+    other-passes End h = absurd (miss passing 3 tt h)
+    other-passes (WaitTime n) h = absurd (miss passing 4 tt h)
+    other-passes (WaitData s) h = absurd (miss passing 5 tt h)
+    other-passes (WaitByte n) h = absurd (miss passing 6 tt h)
+    other-passes (WaitClock k) h = absurd (miss passing 7 tt h)
+    other-passes (WaitSignal l) h = absurd (miss passing 8 tt h)
+    other-passes (Rts on) h = refl
+    other-passes (Log s) h = refl
+    other-passes Fchange h = refl
+    other-passes Pause h = refl
+    other-passes Resume h = refl
+    other-passes Nop h = refl
+    other-passes Unknown h = absurd (miss passing 15 tt h)

@@ -2,19 +2,10 @@
 use mathlib.Core.Path.{sym, ap, _∙_}
 use denote.Ref.{now}
 use Rattle.process.specs.Waiting.{byteWait, waitRight}
-use Rattle.receiving.proofs.DataCases.{bytes-end, bytes-stay}
+use Rattle.receiving.proofs.DataCases.{bytes-end, bytes-stay, others-stay}
 use borrow.Author.Needs.{needs}
 use Rattle.receiving.proofs.wait_byte.Statement.{statement}
 use Rattle.receiving.proofs.wait_byte.Tie as tie
-
-enum-told : tie.Need-enum-told
-enum-told c = search needs
-
-enum-told-2 : tie.Need-enum-told-2
-enum-told-2 c = search needs
-
-enum-told-3 : tie.Need-enum-told-3
-enum-told-3 c = search needs
 
 enum-known-w : tie.Need-enum-known-w
 enum-known-w c = search needs
@@ -23,9 +14,11 @@ awaken-requires : tie.Need-awaken-requires
 awaken-requires c κs = search needs
 
 returns : tie.Need-returns
-returns c = let w = c .before .before .before in
+returns c =
+    let w = c .before .before .before in
     let a = w .before .before .args in
-    c .awaken .ensures ∙ sym (ap (byteWait (now (a .pool)) (a .b) (a .place) (a .end)) (w .w .given .1) ∙ bytes-end (a .place) (a .end) (now (a .pool)) (a .b) _ (c .before .if1 .taken))
+    c .awaken .ensures
+    ∙ sym (ap (byteWait (now (a .pool)) (a .b) (a .place) (a .end)) (w .w .given .1) ∙ bytes-end (a .place) (a .end) (now (a .pool)) (a .b) _ (c .before .if1 .taken))
 
 sub-t10 : tie.Need-sub-t10
 sub-t10 c = search needs
@@ -36,56 +29,33 @@ enum-known-w-2 c = search needs
 match-byte-requires : tie.Need-match-byte-requires
 match-byte-requires c κs = sym (ap waitRight (c .before .w2 .given .1)) ∙ c .before .before .before .pre
 
-enum-told-4 : tie.Need-enum-told-4
-enum-told-4 c = search needs
-
-enum-told-5 : tie.Need-enum-told-5
-enum-told-5 c = search needs
-
 returns-2 : tie.Need-returns-2
-returns-2 c = search needs
-
-returns-3 : tie.Need-returns-3
-returns-3 c = search needs
-
-returns-4 : tie.Need-returns-4
-returns-4 c = search needs
-
-returns-5 : tie.Need-returns-5
-returns-5 c = let w = c .before .before in
+returns-2 c =
+    let w = c .before .before in
     let a = w .before .before .args in
     sym (ap (byteWait (now (a .pool)) (a .b) (a .place) (a .end)) (w .w .given .1) ∙ bytes-stay (a .place) (a .end) (now (a .pool)) (a .b) _ (c .if1 .left))
 
-returns-6 : tie.Need-returns-6
-returns-6 c = let w = c .before .before in
+returns-3 : tie.Need-returns-3
+returns-3 c =
+    let w = c .before .before in
     let a = w .before .before .args in
     c .match-byte .ensures ∙ sym (ap (byteWait (now (a .pool)) (a .b) (a .place) (a .end)) (w .w2 .given .1))
 
-returns-7 : tie.Need-returns-7
-returns-7 c = search needs
-
-returns-8 : tie.Need-returns-8
-returns-8 c = search needs
+returns-4 : tie.Need-returns-4
+returns-4 c =
+    let a = c .before .args in
+    others-stay (now (a .pool)) (a .b) (a .place) (a .end) (a .w) (c .match .keys3)
 
 pub wait-byte-spec : {M : Type 1} → statement M
 wait-byte-spec =
     tie.close
     (tie.spec
-    enum-told
-    enum-told-2
-    enum-told-3
     enum-known-w
     awaken-requires
     returns
     sub-t10
     enum-known-w-2
     match-byte-requires
-    enum-told-4
-    enum-told-5
     returns-2
     returns-3
-    returns-4
-    returns-5
-    returns-6
-    returns-7
-    returns-8)
+    returns-4)

@@ -1,18 +1,14 @@
 -- `runner::draining::idle` meets its contract. Assumes nothing.
-use mathlib.Core.Path.{_∙_}
 use Rattle.runner.proofs.Drains.{idle-small, idle-quiet}
 use borrow.Author.Needs.{needs}
 use Rattle.runner.proofs.draining.idle.Statement.{statement}
 use Rattle.runner.proofs.draining.idle.Tie as tie
 
-refuse-requires : tie.Need-refuse-requires
-refuse-requires c κs = search needs
-
 returns : tie.Need-returns
-returns c = c .refuse .ensures ∙ idle-small _ _ (c .before .if1 .taken)
+returns c = idle-small _ _ (c .if1 .taken)
 
 returns-2 : tie.Need-returns-2
 returns-2 c = idle-quiet _ _ (c .if1 .left)
 
 pub idle-spec : {M : Type 1} → statement M
-idle-spec = tie.close (tie.spec refuse-requires returns returns-2)
+idle-spec = tie.close (tie.spec returns returns-2)

@@ -2,8 +2,9 @@
 use mathlib.Core.Path.{sym, ap, ap₂, _∙_}
 use Prim.Native.Nat.{ℕ}
 use denote.Ref.{now}
-use Rattle.statement.specs.declared.Joined.{Joined}
+use Rattle.joining.specs.declared.Joined.{Joined}
 use Rattle.statement.specs.Moving.{awaits, movedBy}
+use Rattle.statement.proofs.MoveCases.{other-passes}
 use borrow.Author.Needs.{needs}
 use Rattle.statement.proofs.moving.moves_by.Statement.{statement}
 use Rattle.statement.proofs.moving.moves_by.Tie as tie
@@ -17,17 +18,23 @@ strays-requires c κs = search needs
 enum-told-2 : tie.Need-enum-told-2
 enum-told-2 c = search needs
 
-passes-on-requires : tie.Need-passes-on-requires
-passes-on-requires c κs = search needs
+strays-requires-2 : tie.Need-strays-requires-2
+strays-requires-2 c κs = search needs
 
 enum-known-cell : tie.Need-enum-known-cell
 enum-known-cell c = search needs
+
+add-opens : tie.Need-add-opens
+add-opens c = search needs
 
 opens-requires : tie.Need-opens-requires
 opens-requires c κs = search needs
 
 enum-told-3 : tie.Need-enum-told-3
 enum-told-3 c = search needs
+
+add-closes : tie.Need-add-closes
+add-closes c = search needs
 
 closes-requires : tie.Need-closes-requires
 closes-requires c κs = search needs
@@ -71,127 +78,70 @@ enum-known-cell-6 c = search needs
 awaits-level-requires : tie.Need-awaits-level-requires
 awaits-level-requires c κs = search needs
 
-enum-told-4 : tie.Need-enum-told-4
-enum-told-4 c = search needs
-
-passes-on-requires-2 : tie.Need-passes-on-requires-2
-passes-on-requires-2 c κs = search needs
-
-enum-told-5 : tie.Need-enum-told-5
-enum-told-5 c = search needs
-
-passes-on-requires-3 : tie.Need-passes-on-requires-3
-passes-on-requires-3 c κs = search needs
-
-enum-told-6 : tie.Need-enum-told-6
-enum-told-6 c = search needs
-
-passes-on-requires-4 : tie.Need-passes-on-requires-4
-passes-on-requires-4 c κs = search needs
-
-enum-told-7 : tie.Need-enum-told-7
-enum-told-7 c = search needs
-
-passes-on-requires-5 : tie.Need-passes-on-requires-5
-passes-on-requires-5 c κs = search needs
-
-enum-told-8 : tie.Need-enum-told-8
-enum-told-8 c = search needs
-
-passes-on-requires-6 : tie.Need-passes-on-requires-6
-passes-on-requires-6 c κs = search needs
-
-enum-told-9 : tie.Need-enum-told-9
-enum-told-9 c = search needs
-
-passes-on-requires-7 : tie.Need-passes-on-requires-7
-passes-on-requires-7 c κs = search needs
-
-enum-told-10 : tie.Need-enum-told-10
-enum-told-10 c = search needs
-
-strays-requires-2 : tie.Need-strays-requires-2
-strays-requires-2 c κs = search needs
+passes-on-requires : tie.Need-passes-on-requires
+passes-on-requires c κs = search needs
 
 returns : tie.Need-returns
 unfolding movedBy
-returns c = let a = c .before .before .before .args in
+returns c =
+    let a = c .before .before .before .args in
     c .strays .ensures ∙ sym (ap (movedBy (now (a .cells)) (a .levels) (a .p)) (c .before .enum-told .given .1))
 
 returns-2 : tie.Need-returns-2
 unfolding movedBy
-returns-2 c = let a = c .before .before .before .args in
-    c .passes-on .ensures ∙ sym (ap (movedBy (now (a .cells)) (a .levels) (a .p)) (c .before .enum-told2 .given .1))
+returns-2 c =
+    let a = c .before .before .before .args in
+    c .strays2 .ensures ∙ sym (ap (movedBy (now (a .cells)) (a .levels) (a .p)) (c .before .enum-told2 .given .1))
 
 returns-3 : tie.Need-returns-3
 unfolding movedBy
-returns-3 c = let a = c .before .before .before .before .args in
-    c .opens .ensures ∙ sym (ap (movedBy (now (a .cells)) (a .levels) (a .p)) (c .before .before .cell .given .1))
+returns-3 c =
+    let a = c .before .before .before .before .before .args in
+    c .opens .ensures ∙ sym (ap (movedBy (now (a .cells)) (a .levels) (a .p)) (c .before .before .before .cell .given .1))
 
 returns-4 : tie.Need-returns-4
 unfolding movedBy
-returns-4 c = let a = c .before .before .before .args in
-    c .closes .ensures ∙ sym (ap (movedBy (now (a .cells)) (a .levels) (a .p)) (c .before .enum-told3 .given .1))
+returns-4 c =
+    let a = c .before .before .before .before .args in
+    c .closes .ensures ∙ sym (ap (movedBy (now (a .cells)) (a .levels) (a .p)) (c .before .before .enum-told3 .given .1))
 
 returns-5 : tie.Need-returns-5
 unfolding movedBy
-returns-5 c = let a = c .before .before .before .before .args in
+returns-5 c =
+    let a = c .before .before .before .before .args in
     c .rests-unless .ensures ∙ sym (ap (movedBy (now (a .cells)) (a .levels) (a .p)) (c .before .before .cell2 .given .1))
 
 returns-6 : tie.Need-returns-6
 unfolding movedBy
-returns-6 c = let a = c .before .before .before .before .before .args in
-    c .awaits-data .ensures ∙ ap₂ (λ (k m : ℕ). awaits (a .p) (c .before .before .before .cell3 .given .0 .0) k m) (ap (λ (j : Joined). j .cells) (c .before .neighbours-in .ensures .0)) (ap (λ (j : Joined). j .bytes) (c .before .neighbours-in .ensures .0)) ∙ sym (ap (movedBy (now (a .cells)) (a .levels) (a .p)) (c .before .before .before .cell3 .given .1))
+returns-6 c =
+    let a = c .before .before .before .before .before .args in
+    let j = c .before .neighbours-in .ensures .0 in
+    c .awaits-data .ensures
+    ∙ ap₂ (awaits (a .p) (c .before .before .before .cell3 .given .0 .0)) (ap (λ (j : Joined). j .cells) j) (ap (λ (j : Joined). j .bytes) j)
+    ∙ sym (ap (movedBy (now (a .cells)) (a .levels) (a .p)) (c .before .before .before .cell3 .given .1))
 
 returns-7 : tie.Need-returns-7
 unfolding movedBy
-returns-7 c = let a = c .before .before .before .before .args in
+returns-7 c =
+    let a = c .before .before .before .before .args in
     c .rests-unless2 .ensures ∙ sym (ap (movedBy (now (a .cells)) (a .levels) (a .p)) (c .before .before .cell4 .given .1))
 
 returns-8 : tie.Need-returns-8
 unfolding movedBy
-returns-8 c = let a = c .before .before .before .before .before .args in
+returns-8 c =
+    let a = c .before .before .before .before .before .args in
     c .rests-at .ensures ∙ sym (ap (movedBy (now (a .cells)) (a .levels) (a .p)) (c .before .before .before .cell5 .given .1))
 
 returns-9 : tie.Need-returns-9
 unfolding movedBy
-returns-9 c = let a = c .before .before .before .before .args in
+returns-9 c =
+    let a = c .before .before .before .before .args in
     c .awaits-level .ensures ∙ sym (ap (movedBy (now (a .cells)) (a .levels) (a .p)) (c .before .before .cell6 .given .1))
 
 returns-10 : tie.Need-returns-10
-unfolding movedBy
-returns-10 c = let a = c .before .before .before .args in
-    c .passes-on2 .ensures ∙ sym (ap (movedBy (now (a .cells)) (a .levels) (a .p)) (c .before .enum-told4 .given .1))
-
-returns-11 : tie.Need-returns-11
-unfolding movedBy
-returns-11 c = let a = c .before .before .before .args in
-    c .passes-on3 .ensures ∙ sym (ap (movedBy (now (a .cells)) (a .levels) (a .p)) (c .before .enum-told5 .given .1))
-
-returns-12 : tie.Need-returns-12
-unfolding movedBy
-returns-12 c = let a = c .before .before .before .args in
-    c .passes-on4 .ensures ∙ sym (ap (movedBy (now (a .cells)) (a .levels) (a .p)) (c .before .enum-told6 .given .1))
-
-returns-13 : tie.Need-returns-13
-unfolding movedBy
-returns-13 c = let a = c .before .before .before .args in
-    c .passes-on5 .ensures ∙ sym (ap (movedBy (now (a .cells)) (a .levels) (a .p)) (c .before .enum-told7 .given .1))
-
-returns-14 : tie.Need-returns-14
-unfolding movedBy
-returns-14 c = let a = c .before .before .before .args in
-    c .passes-on6 .ensures ∙ sym (ap (movedBy (now (a .cells)) (a .levels) (a .p)) (c .before .enum-told8 .given .1))
-
-returns-15 : tie.Need-returns-15
-unfolding movedBy
-returns-15 c = let a = c .before .before .before .args in
-    c .passes-on7 .ensures ∙ sym (ap (movedBy (now (a .cells)) (a .levels) (a .p)) (c .before .enum-told9 .given .1))
-
-returns-16 : tie.Need-returns-16
-unfolding movedBy
-returns-16 c = let a = c .before .before .before .args in
-    c .strays2 .ensures ∙ sym (ap (movedBy (now (a .cells)) (a .levels) (a .p)) (c .before .enum-told10 .given .1))
+returns-10 c =
+    let a = c .before .before .args in
+    c .passes-on .ensures ∙ other-passes (a .p) (now (a .cells)) (a .levels) (a .cell) (c .before .match .keys10)
 
 pub moves-by-spec : {M : Type 1} → statement M
 moves-by-spec =
@@ -200,10 +150,12 @@ moves-by-spec =
     enum-told
     strays-requires
     enum-told-2
-    passes-on-requires
+    strays-requires-2
     enum-known-cell
+    add-opens
     opens-requires
     enum-told-3
+    add-closes
     closes-requires
     enum-known-cell-2
     rests-unless-requires
@@ -218,20 +170,7 @@ moves-by-spec =
     rests-at-requires
     enum-known-cell-6
     awaits-level-requires
-    enum-told-4
-    passes-on-requires-2
-    enum-told-5
-    passes-on-requires-3
-    enum-told-6
-    passes-on-requires-4
-    enum-told-7
-    passes-on-requires-5
-    enum-told-8
-    passes-on-requires-6
-    enum-told-9
-    passes-on-requires-7
-    enum-told-10
-    strays-requires-2
+    passes-on-requires
     returns
     returns-2
     returns-3
@@ -241,10 +180,4 @@ moves-by-spec =
     returns-7
     returns-8
     returns-9
-    returns-10
-    returns-11
-    returns-12
-    returns-13
-    returns-14
-    returns-15
-    returns-16)
+    returns-10)

@@ -1,0 +1,2 @@
+-- Document 01, "Running": what a statement says.
+pub mod Saying
