@@ -73,6 +73,15 @@ fn do_tick(s: State) -> Done {
     }
 }
 
+// 1 for a drain that did a statement.
+fn does(outcome: Outcome) -> u64 {
+    match outcome {
+        Outcome::Quiet => 0,
+        Outcome::Refused(_) => 0,
+        _ => 1,
+    }
+}
+
 fn do_drain<'a>(
     cells: &'a Cells,
     pool: &'a Pool,
@@ -83,16 +92,9 @@ fn do_drain<'a>(
     let d = drain(cells, pool, s, counts, out);
     let state = d.state;
     let outcome = d.outcome;
-    match outcome {
-        Outcome::Quiet => Done { state, one: 0 },
-        Outcome::Refused(_) => Done { state, one: 0 },
-        Outcome::Sent(_) => Done { state, one: 1 },
-        Outcome::Recorded(_) => Done { state, one: 1 },
-        Outcome::Rts(_) => Done { state, one: 1 },
-        Outcome::Fchange => Done { state, one: 1 },
-        Outcome::Pause => Done { state, one: 1 },
-        Outcome::Resume => Done { state, one: 1 },
-        Outcome::Plain => Done { state, one: 1 },
+    Done {
+        state,
+        one: does(outcome),
     }
 }
 
@@ -167,24 +169,35 @@ fn tick_often(s: State, count: u64) -> u64 {
     sum
 }
 
-// What is done with a script that was started.
-fn run(what: &[u8], table: Table, count: u64) -> u64 {
+// How many drains come first: all, or as many as make the script quiet.
+fn drains(what: &[u8], count: u64) -> u64 {
+    if is_named(what, 0, what.len(), b"drain") {
+        return count;
+    }
+    100
+}
+
+// What is done with a script that was started and drained.
+fn run(what: &[u8], pool: &Pool, heads: Heads, drained: Done, count: u64) -> u64 {
+    let state = drained.state;
+    if is_named(what, 0, what.len(), b"drain") {
+        return drained.one;
+    }
+    if is_named(what, 0, what.len(), b"byte") {
+        return byte_often(pool, heads, state, count);
+    }
+    tick_often(state, count)
+}
+
+fn started(what: &[u8], table: Table, count: u64) -> u64 {
     let cells = table.cells;
     let pool = table.pool;
     let heads = table.heads;
     let mut counts = [0u32; 512];
     let e = start(&cells, &pool, heads, idle(), &mut counts);
     let state = e.state;
-    if is_named(what, 0, what.len(), b"drain") {
-        let drained = drain_often(&cells, &pool, state, &mut counts, count);
-        return drained.one;
-    }
-    let quiet = drain_often(&cells, &pool, state, &mut counts, 100);
-    let next = quiet.state;
-    if is_named(what, 0, what.len(), b"byte") {
-        return byte_often(&pool, heads, next, count);
-    }
-    tick_often(next, count)
+    let drained = drain_often(&cells, &pool, state, &mut counts, drains(what, count));
+    run(what, &pool, heads, drained, count)
 }
 
 fn on_text(what: &[u8], text: &[u8], count: u64) -> u64 {
@@ -192,7 +205,7 @@ fn on_text(what: &[u8], text: &[u8], count: u64) -> u64 {
         return compile_often(text, count);
     }
     let compiled = compile(text);
-    run(what, compiled.table, count)
+    started(what, compiled.table, count)
 }
 
 fn thousands(text: &[u8]) -> u64 {
@@ -206,17 +219,28 @@ fn thousands(text: &[u8]) -> u64 {
     }
 }
 
+fn times() -> u64 {
+    let mut text = io::buffer();
+    let n = os::arg(3, &mut text);
+    thousands(&text[..n])
+}
+
+fn open_script() -> i32 {
+    let mut path = io::buffer();
+    let n = os::arg(2, &mut path);
+    os::open_read(&path[..n])
+}
+
+fn on_script(what: &[u8]) -> u64 {
+    let mut text = [0u8; 65537];
+    let n = io::read_full(open_script(), &mut text);
+    on_text(what, &text[..n], times())
+}
+
 fn main() {
     let mut what = io::buffer();
-    let mut path = io::buffer();
-    let mut times = io::buffer();
-    let mut text = [0u8; 65537];
-    let a = os::arg(1, &mut what);
-    let b = os::arg(2, &mut path);
-    let c = os::arg(3, &mut times);
-    let script = os::open_read(&path[..b]);
-    let n = io::read_full(script, &mut text);
-    let result = on_text(&what[..a], &text[..n], thousands(&times[..c]));
+    let n = os::arg(1, &mut what);
+    let result = on_script(&what[..n]);
     io::print_decimal(STDOUT_FILENO, result);
     io::write_all(STDOUT_FILENO, b"\n");
 }

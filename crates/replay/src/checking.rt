@@ -1,7 +1,7 @@
 // A script held against its listing, and its run against its outcomes.
 use super::outcomes;
 use super::output::first;
-use super::output::say;
+use super::output::say_either;
 use super::output::say_number;
 use super::running;
 use language::Table;
@@ -33,20 +33,15 @@ pub(crate) fn open_file(name: &[u8], ending: &[u8]) -> i32 {
 }
 
 pub(crate) fn check_table(name: &[u8], table: Table) {
-    if listing_agrees(table, open_file(name, b".listing")) {
-        say(b"listing agrees, ");
-    } else {
-        say(b"listing differs, ");
-    }
-    let done = running::started(
-        table,
-        open_file(name, b".operations"),
-        open_file(name, b".outcomes"),
-    );
+    let agrees = listing_agrees(table, open_file(name, b".listing"));
+    say_either(agrees, b"listing agrees, ", b"listing differs, ");
+    let operations = open_file(name, b".operations");
+    let outcomes = open_file(name, b".outcomes");
+    let done = running::started(table, operations, outcomes);
     say_number(done.told);
-    if done.agrees {
-        say(b" outcomes agree\n");
-    } else {
-        say(b" outcomes, not all agree\n");
-    }
+    say_either(
+        done.agrees,
+        b" outcomes agree\n",
+        b" outcomes, not all agree\n",
+    );
 }

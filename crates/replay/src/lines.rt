@@ -8,24 +8,39 @@ pub enum Line {
     End,
 }
 
-enum Got {
-    Byte(u8),
-    End,
+// What is read where there is no further byte.
+const END: u16 = 256;
+
+fn wide(b: u8) -> u16 {
+    b as u16
 }
 
-fn next_byte(fd: i32) -> Got {
+fn next_byte(fd: i32) -> u16 {
     let mut one = [0u8; 1];
     if libc::read(fd, &mut one) == 1 {
-        return Got::Byte(one[0]);
+        return wide(one[0]);
     }
-    Got::End
+    END
 }
 
-// The bytes of a line are in, without its LF: one CR at its end is dropped.
-fn ended(line: &[u8], n: usize, is_long: bool) -> Line {
-    if is_long {
-        return Line::TooLong;
+fn ends_line(b: u16) -> bool {
+    if b == END {
+        return true;
     }
+    b == 10
+}
+
+// Keeps a byte of a line, if there is room for it.
+fn keep(line: &mut [u8], n: usize, b: u16) {
+    if n < line.len() {
+        if b < 256 {
+            line[n] = b as u8;
+        }
+    }
+}
+
+// The line's length without the one CR that is dropped at its end.
+fn without_cr(line: &[u8], n: usize) -> Line {
     if 0 < n {
         if n <= line.len() {
             if line[n - 1] == 13 {
@@ -36,33 +51,29 @@ fn ended(line: &[u8], n: usize, is_long: bool) -> Line {
     Line::Of(n)
 }
 
-// A proved loop has to end, and nothing says that the input does: the count of turns falls from a number that no run uses up.
+// The n bytes of a line are in, without its LF.
+fn ended(line: &[u8], n: usize, last: u16) -> Line {
+    if line.len() < n {
+        return Line::TooLong;
+    }
+    if n == 0 {
+        if last == END {
+            return Line::End;
+        }
+    }
+    without_cr(line, n)
+}
+
+// A proved loop has to end, and nothing says that the input does: it ends behind more bytes than any line has.
 pub(crate) fn next_line(fd: i32, line: &mut [u8]) -> Line {
     let mut n = 0usize;
-    let mut is_long = false;
-    let mut turns = u64::MAX;
-    while 0 < turns {
-        turns -= 1;
-        let got = next_byte(fd);
-        match got {
-            Got::Byte(b) => {
-                if b == 10 {
-                    return ended(line, n, is_long);
-                }
-                if n < line.len() {
-                    line[n] = b;
-                    n += 1;
-                } else {
-                    is_long = true;
-                }
-            }
-            Got::End => {
-                if n == 0 {
-                    return Line::End;
-                }
-                return ended(line, n, is_long);
-            }
+    while n < usize::MAX {
+        let b = next_byte(fd);
+        if ends_line(b) {
+            return ended(line, n, b);
         }
+        keep(line, n, b);
+        n += 1;
     }
     Line::End
 }

@@ -1,4 +1,6 @@
 // An operation, read from a line: `drain SIZE`, `byte HH`, `tick`, `clock YY MM DD hh mm ss`, `level SIGNAL on|off`.
+use super::lines;
+use super::lines::Line;
 use super::output::first;
 use hex::hex_byte;
 use process::Reading;
@@ -16,7 +18,11 @@ pub enum Operation {
     Clock(Reading),
     Level(u8, bool),
     Bad,
+    End,
 }
+
+// The largest place there is.
+const NOWHERE: usize = 18446744073709551615;
 
 fn small(n: u32) -> u8 {
     if n < 256 { n as u8 } else { 255 }
@@ -26,9 +32,25 @@ fn wide(n: u32) -> usize {
     n as usize
 }
 
+// A number read, and the place behind it; where there is none, a place that is in no line.
+struct Part {
+    value: u8,
+    next: usize,
+}
+
 // A number of up to 255 behind blanks.
-fn next_number(line: &[u8], at: usize) -> Number {
-    number(line, after_blanks(line, at), 3, 255)
+fn next_number(line: &[u8], at: usize) -> Part {
+    let read = number(line, after_blanks(line, at), 3, 255);
+    match read {
+        Number::Value(n, next) => Part {
+            value: small(n),
+            next,
+        },
+        Number::Bad(_) => Part {
+            value: 0,
+            next: NOWHERE,
+        },
+    }
 }
 
 fn ends(line: &[u8], at: usize) -> bool {
@@ -37,68 +59,39 @@ fn ends(line: &[u8], at: usize) -> bool {
 
 fn drain(line: &[u8], at: usize) -> Operation {
     let size = number(line, after_blanks(line, at), 5, 65536);
-    match size {
-        Number::Value(n, end) => {
-            if ends(line, end) {
-                return Operation::Drain(wide(n));
-            }
-            Operation::Bad
+    if let Number::Value(n, end) = size {
+        if ends(line, end) {
+            return Operation::Drain(wide(n));
         }
-        Number::Bad(_) => Operation::Bad,
     }
+    Operation::Bad
 }
 
 fn byte(line: &[u8], at: usize) -> Operation {
-    let from = after_blanks(line, at);
-    let value = hex_byte(line, from);
-    match value {
-        Number::Value(n, end) => {
-            if ends(line, end) {
-                return Operation::Byte(small(n));
-            }
-            Operation::Bad
+    let value = hex_byte(line, after_blanks(line, at));
+    if let Number::Value(n, end) = value {
+        if ends(line, end) {
+            return Operation::Byte(small(n));
         }
-        Number::Bad(_) => Operation::Bad,
     }
+    Operation::Bad
 }
 
 fn clock(line: &[u8], at: usize) -> Operation {
     let year = next_number(line, at);
-    let Number::Value(yy, a) = year else {
-        return Operation::Bad;
-    };
-    let month = next_number(line, a);
-    let Number::Value(mm, b) = month else {
-        return Operation::Bad;
-    };
-    let day = next_number(line, b);
-    let Number::Value(dd, c) = day else {
-        return Operation::Bad;
-    };
-    time(line, c, small(yy), small(mm), small(dd))
-}
-
-fn time(line: &[u8], at: usize, year: u8, month: u8, day: u8) -> Operation {
-    let hour = next_number(line, at);
-    let Number::Value(hh, a) = hour else {
-        return Operation::Bad;
-    };
-    let minute = next_number(line, a);
-    let Number::Value(mm, b) = minute else {
-        return Operation::Bad;
-    };
-    let second = next_number(line, b);
-    let Number::Value(ss, c) = second else {
-        return Operation::Bad;
-    };
-    if ends(line, c) {
+    let month = next_number(line, year.next);
+    let day = next_number(line, month.next);
+    let hour = next_number(line, day.next);
+    let minute = next_number(line, hour.next);
+    let second = next_number(line, minute.next);
+    if ends(line, second.next) {
         return Operation::Clock(Reading {
-            year: year,
-            month: month,
-            day: day,
-            hour: small(hh),
-            minute: small(mm),
-            second: small(ss),
+            year: year.value,
+            month: month.value,
+            day: day.value,
+            hour: hour.value,
+            minute: minute.value,
+            second: second.value,
         });
     }
     Operation::Bad
@@ -106,15 +99,12 @@ fn time(line: &[u8], at: usize, year: u8, month: u8, day: u8) -> Operation {
 
 fn level(line: &[u8], at: usize) -> Operation {
     let signal = next_number(line, at);
-    let Number::Value(n, end) = signal else {
-        return Operation::Bad;
-    };
-    let from = after_blanks(line, end);
+    let from = after_blanks(line, signal.next);
     if is_named(line, from, line.len(), b"on") {
-        return Operation::Level(small(n), true);
+        return Operation::Level(signal.value, true);
     }
     if is_named(line, from, line.len(), b"off") {
-        return Operation::Level(small(n), false);
+        return Operation::Level(signal.value, false);
     }
     Operation::Bad
 }
@@ -139,7 +129,20 @@ fn by_name(line: &[u8]) -> Operation {
     Operation::Bad
 }
 
-// Blanks at the end of a line are ignored.
-pub(crate) fn read_operation(line: &[u8]) -> Operation {
-    by_name(first(line, trimmed_end(line)))
+pub(crate) fn is_end(asked: Operation) -> bool {
+    match asked {
+        Operation::End => true,
+        _ => false,
+    }
+}
+
+// The operation of the next line; blanks at its end are ignored.
+pub(crate) fn next_operation(from: i32) -> Operation {
+    let mut line = [0u8; 512];
+    let next = lines::next_line(from, &mut line);
+    match next {
+        Line::Of(n) => by_name(first(&line, trimmed_end(first(&line, n)))),
+        Line::TooLong => Operation::Bad,
+        Line::End => Operation::End,
+    }
 }

@@ -1,9 +1,11 @@
 // The line that tells an outcome, written into a lent buffer.
+use super::output::behind;
 use super::output::first;
 use outcome::Outcome;
 use process::Received;
 use process::Refusal;
 use process::Taken;
+use words::trimmed_end;
 use writer::Put;
 use writer::put_bytes;
 use writer::put_decimal;
@@ -42,23 +44,47 @@ fn data(text: &mut [u8], name: &[u8], bytes: &[u8]) -> usize {
     after(put, next)
 }
 
-pub(crate) fn drained(text: &mut [u8], outcome: Outcome, bytes: &[u8]) -> usize {
+// The place of an outcome's name in all their names.
+fn place(outcome: Outcome) -> usize {
     match outcome {
-        Outcome::Quiet => word(text, 0, b"quiet"),
-        Outcome::Sent(length) => data(text, b"sent", first(bytes, length.bytes)),
-        Outcome::Recorded(length) => data(text, b"recorded", first(bytes, length.bytes)),
+        Outcome::Quiet => 0,
+        Outcome::Sent(_) => 8,
+        Outcome::Recorded(_) => 16,
         Outcome::Rts(switch) => {
             if switch.on {
-                return word(text, 0, b"rts on");
+                return 24;
             }
-            word(text, 0, b"rts off")
+            32
         }
-        Outcome::Fchange => word(text, 0, b"fchange"),
-        Outcome::Pause => word(text, 0, b"pause"),
-        Outcome::Resume => word(text, 0, b"resume"),
-        Outcome::Plain => word(text, 0, b"plain"),
-        Outcome::Refused(why) => refusal(text, why),
+        Outcome::Fchange => 40,
+        Outcome::Pause => 48,
+        Outcome::Resume => 56,
+        Outcome::Plain => 64,
+        Outcome::Refused(_) => 72,
     }
+}
+
+// How many bytes an outcome has.
+fn count(outcome: Outcome) -> usize {
+    match outcome {
+        Outcome::Sent(length) => length.bytes,
+        Outcome::Recorded(length) => length.bytes,
+        _ => 0,
+    }
+}
+
+// The name at a place, and the bytes: each name has eight bytes, of which the blanks at its end are left out.
+fn named(text: &mut [u8], place: usize, bytes: &[u8]) -> usize {
+    let names = b"quiet   sent    recordedrts on  rts off fchange pause   resume  plain   ";
+    let name = first(behind(names, place), 8);
+    data(text, first(name, trimmed_end(name)), bytes)
+}
+
+pub(crate) fn drained(text: &mut [u8], outcome: Outcome, bytes: &[u8; 1024]) -> usize {
+    if let Outcome::Refused(why) = outcome {
+        return refusal(text, why);
+    }
+    named(text, place(outcome), first(bytes, count(outcome)))
 }
 
 pub(crate) fn taken(text: &mut [u8], answer: Taken) -> usize {
@@ -68,20 +94,13 @@ pub(crate) fn taken(text: &mut [u8], answer: Taken) -> usize {
     }
 }
 
-fn copies(text: &mut [u8], count: u8, b: u8) -> usize {
-    let twice = [b, b];
-    if count == 0 {
-        return word(text, 0, b"took");
-    }
-    if count == 1 {
-        return data(text, b"took", first(&twice, 1));
-    }
-    data(text, b"took", &twice)
+fn wide(n: u8) -> usize {
+    n as usize
 }
 
 pub(crate) fn received(text: &mut [u8], answer: Received, b: u8) -> usize {
     match answer {
-        Received::Took(c) => copies(text, c.count, b),
+        Received::Took(c) => data(text, b"took", first(&[b, b], wide(c.count))),
         Received::Refused(why) => refusal(text, why),
     }
 }

@@ -1,4 +1,4 @@
-// What is printed, and the first bytes of a buffer.
+// What is printed, and parts of a buffer.
 use language::Fault;
 use libc::STDOUT_FILENO;
 
@@ -10,12 +10,29 @@ pub(crate) fn first(bytes: &[u8], n: usize) -> &[u8] {
     bytes
 }
 
+// The bytes behind the first n, or all of them if there are not so many.
+pub(crate) fn behind(bytes: &[u8], n: usize) -> &[u8] {
+    if n <= bytes.len() {
+        return &bytes[n..];
+    }
+    bytes
+}
+
 pub(crate) fn say(text: &[u8]) {
     io::write_all(STDOUT_FILENO, text);
 }
 
 pub(crate) fn say_number(n: u64) {
     io::print_decimal(STDOUT_FILENO, n);
+}
+
+// The one text where something is so, the other where not.
+pub(crate) fn say_either(is: bool, yes: &[u8], no: &[u8]) {
+    if is {
+        say(yes);
+    } else {
+        say(no);
+    }
 }
 
 fn say_byte(n: u8) {

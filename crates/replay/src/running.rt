@@ -1,4 +1,5 @@
 // A run: an operation at a time, and its outcome told or held against a file's.
+ghost use Prim.Native.Nat.{_≤_};
 use super::lines;
 use super::lines::Line;
 use super::operations;
@@ -15,6 +16,7 @@ use language::Pool;
 use language::Table;
 use process::Event;
 use process::State;
+use process::waits::both;
 use receiving::receive;
 use runner::Drained;
 use runner::draining::drain;
@@ -36,19 +38,14 @@ fn tell_event(e: Event, text: &mut [u8]) -> Told {
     Told { state, length }
 }
 
-// A drain with a lent buffer of so many bytes, or of 1,024: no statement writes more than 127.
-fn drain_into<'a>(
-    cells: &'a Cells,
-    pool: &'a Pool,
-    s: State,
-    counts: &mut Counts,
-    bytes: &mut [u8],
-    size: usize,
-) -> Drained {
-    if size <= bytes.len() {
-        return drain(cells, pool, s, counts, &mut bytes[..size]);
+// How much of a buffer of 1,024 bytes is lent: no statement writes more than 127.
+fn lent(size: usize) -> usize
+    ensures { λ r. ⌜ r ≤ 1024 ⌝ }
+{
+    if size < 1024 {
+        return size;
     }
-    drain(cells, pool, s, counts, bytes)
+    1024
 }
 
 fn do_drain<'a>(
@@ -60,11 +57,11 @@ fn do_drain<'a>(
     text: &mut [u8],
 ) -> Told {
     let mut space = [0u8; 1024];
-    let bytes: &mut [u8] = &mut space;
-    let drained = drain_into(cells, pool, s, counts, bytes, size);
+    let n = lent(size);
+    let drained = drain(cells, pool, s, counts, &mut space[..n]);
     let state = drained.state;
     let outcome = drained.outcome;
-    let length = outcomes::drained(text, outcome, bytes);
+    let length = outcomes::drained(text, outcome, &space);
     Told { state, length }
 }
 
@@ -76,57 +73,70 @@ fn do_byte(pool: &Pool, heads: Heads, s: State, b: u8, text: &mut [u8]) -> Told 
     Told { state, length }
 }
 
+fn event(s: State, asked: Operation) -> Event {
+    match asked {
+        Operation::Clock(r) => read_clock(s, r),
+        Operation::Level(signal, on) => set_level(s, signal, on),
+        _ => tick(s),
+    }
+}
+
 fn operate<'a>(
     cells: &'a Cells,
     pool: &'a Pool,
     heads: Heads,
     s: State,
     counts: &mut Counts,
-    line: &[u8],
+    asked: Operation,
     text: &mut [u8],
 ) -> Told {
-    let asked = operations::read_operation(line);
     match asked {
         Operation::Drain(size) => do_drain(cells, pool, s, counts, size, text),
         Operation::Byte(b) => do_byte(pool, heads, s, b, text),
-        Operation::Tick => tell_event(tick(s), text),
-        Operation::Clock(r) => tell_event(read_clock(s, r), text),
-        Operation::Level(signal, on) => tell_event(set_level(s, signal, on), text),
         Operation::Bad => {
             let length = outcomes::word(text, 0, b"bad operation");
             Told { state: s, length }
         }
+        _ => tell_event(event(s, asked), text),
     }
 }
 
-// Prints an outcome, or holds it against the next line of a file: false where they differ.
-fn tell(text: &[u8], expected: i32) -> bool {
-    if expected < 0 {
-        say(text);
-        say(b"\n");
-        return true;
-    }
+fn say_line(text: &[u8]) {
+    say(text);
+    say(b"\n");
+}
+
+fn say_differs(text: &[u8]) {
+    say(b"a run says ");
+    say_line(text);
+}
+
+// Holds an outcome against the next line of a file.
+fn is_expected(text: &[u8], expected: i32) -> bool {
     let mut line = [0u8; 512];
     let next = lines::next_line(expected, &mut line);
-    match next {
-        Line::Of(n) => {
-            if is_named(&line, 0, n, text) {
-                return true;
-            }
-            say(b"a run says ");
-            say(text);
-            say(b"\n");
-            false
-        }
-        Line::TooLong => false,
-        Line::End => false,
+    let Line::Of(n) = next else {
+        return false;
+    };
+    if is_named(&line, 0, n, text) {
+        return true;
     }
+    say_differs(text);
+    false
 }
 
-// The state after a line of operations, and whether there was one and it was told.
+// Prints an outcome, or holds it against a file: false where they differ.
+fn tell(text: &[u8], expected: i32) -> bool {
+    if expected < 0 {
+        say_line(text);
+        return true;
+    }
+    is_expected(text, expected)
+}
+
+// The state after an operation, and whether its outcome was that of a file.
 struct Turn {
     state: State,
-    goes_on: bool,
     agrees: bool,
 }
 
@@ -136,37 +146,14 @@ fn take_turn<'a>(
     heads: Heads,
     s: State,
     counts: &mut Counts,
-    from: i32,
+    asked: Operation,
     expected: i32,
 ) -> Turn {
-    let mut line = [0u8; 512];
     let mut text = [0u8; 512];
-    let next = lines::next_line(from, &mut line);
-    match next {
-        Line::Of(n) => {
-            let done = operate(cells, pool, heads, s, counts, first(&line, n), &mut text);
-            let state = done.state;
-            let agrees = tell(first(&text, done.length), expected);
-            Turn {
-                state,
-                goes_on: true,
-                agrees,
-            }
-        }
-        Line::TooLong => {
-            let agrees = tell(b"bad operation", expected);
-            Turn {
-                state: s,
-                goes_on: true,
-                agrees,
-            }
-        }
-        Line::End => Turn {
-            state: s,
-            goes_on: false,
-            agrees: true,
-        },
-    }
+    let done = operate(cells, pool, heads, s, counts, asked, &mut text);
+    let state = done.state;
+    let agrees = tell(first(&text, done.length), expected);
+    Turn { state, agrees }
 }
 
 // How many outcomes were told, and whether each was that of a file and the file had no more.
@@ -202,24 +189,19 @@ fn run_all<'a>(
     let mut told = 0u64;
     let mut agrees = true;
     while told < u64::MAX {
-        let t = take_turn(cells, pool, heads, state, counts, from, expected);
-        let next = t.state;
-        state = next;
-        if t.goes_on {
-            told += 1;
-            if t.agrees {} else {
-                agrees = false;
-            }
-        } else {
+        let asked = operations::next_operation(from);
+        if operations::is_end(asked) {
             break;
         }
-    }
-    if is_through(expected) {
-        return Run { told, agrees };
+        let t = take_turn(cells, pool, heads, state, counts, asked, expected);
+        let next = t.state;
+        state = next;
+        agrees = both(agrees, t.agrees);
+        told += 1;
     }
     Run {
         told,
-        agrees: false,
+        agrees: both(agrees, is_through(expected)),
     }
 }
 

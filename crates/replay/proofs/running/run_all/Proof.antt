@@ -14,8 +14,17 @@ abbrev μ-loop : tie.MeasureT-loop
 loop-holds : tie.Need-loop-holds Inv-loop μ-loop
 loop-holds c = search needs
 
+next-operation-requires : tie.Need-next-operation-requires Inv-loop μ-loop
+next-operation-requires c κs = search needs
+
+is-end-requires : tie.Need-is-end-requires Inv-loop μ-loop
+is-end-requires c κs = search needs
+
 take-turn-requires : tie.Need-take-turn-requires Inv-loop μ-loop
 take-turn-requires c κs = search needs
+
+both-requires : tie.Need-both-requires Inv-loop μ-loop
+both-requires c κs = search needs
 
 add-told : tie.Need-add-told Inv-loop μ-loop
 add-told c = search needs
@@ -26,20 +35,14 @@ loop-less c = omega arith
 loop-again : tie.Need-loop-again Inv-loop μ-loop
 loop-again c = search needs
 
-loop-less-2 : tie.Need-loop-less-2 Inv-loop μ-loop
-loop-less-2 c = omega arith
-
-loop-again-2 : tie.Need-loop-again-2 Inv-loop μ-loop
-loop-again-2 c = search needs
-
 is-through-requires : tie.Need-is-through-requires Inv-loop μ-loop
 is-through-requires c κs = search needs
 
+both-requires-2 : tie.Need-both-requires-2 Inv-loop μ-loop
+both-requires-2 c κs = search needs
+
 returns : tie.Need-returns Inv-loop μ-loop
 returns c = search needs
-
-returns-2 : tie.Need-returns-2 Inv-loop μ-loop
-returns-2 c = search needs
 
 pub run-all-spec : {M : Type 1} → statement M
 run-all-spec =
@@ -48,12 +51,13 @@ run-all-spec =
     Inv-loop
     μ-loop
     loop-holds
+    next-operation-requires
+    is-end-requires
     take-turn-requires
+    both-requires
     add-told
     loop-less
     loop-again
-    loop-less-2
-    loop-again-2
     is-through-requires
-    returns
-    returns-2)
+    both-requires-2
+    returns)

@@ -1,0 +1,114 @@
+// The readers: what a line asks of them, and what came back.
+use super::asked::starts;
+use super::asked::text_end;
+use super::asked::text_from;
+use super::say;
+use super::shows;
+use super::tell;
+use hex::HexCount;
+use hex::HexRead;
+use reader::Number;
+use reader::bytes;
+use reader::numbers;
+
+fn wide(n: u32) -> usize {
+    n as usize
+}
+
+fn wide_byte(n: u8) -> usize {
+    n as usize
+}
+
+pub(crate) fn narrow(n: usize) -> u32 {
+    if n < 4294967296 { n as u32 } else { 4294967295 }
+}
+
+pub(crate) fn small(n: usize) -> u8 {
+    if n < 256 { n as u8 } else { 255 }
+}
+
+fn byte(b: u8) {
+    tell(b": digit ", wide_byte(bytes::digit(b)));
+    if bytes::blank(b) {
+        say(b", blank");
+    }
+}
+
+fn word(text: &[u8], at: usize) {
+    let from = words::after_blanks(text, at);
+    tell(b": from ", from);
+    tell(b" to ", words::word_end(text, from));
+}
+
+// The name is the second text of the line.
+fn named(line: &[u8], text: &[u8], from: usize, to: usize) {
+    let name = text_from(line, text_end(line));
+    if words::is_named(text, from, to, name) {
+        say(b": yes");
+    } else {
+        say(b": no");
+    }
+}
+
+fn count(text: &[u8], at: usize) {
+    let counted = hex::hex_count(text, at);
+    match counted {
+        HexCount::Of(n) => tell(b": count ", n),
+        HexCount::Not(i) => tell(b": bad at ", i),
+    }
+}
+
+fn answer_data(read: HexRead) {
+    match read {
+        HexRead::Bytes(n) => tell(b": bytes ", n),
+        HexRead::Wrong(i) => tell(b": bad at ", i),
+        HexRead::Full => say(b": full"),
+    }
+}
+
+// Reads into four bytes from `to` on, and shows the four in hex.
+fn data(text: &[u8], at: usize, to: usize) {
+    let mut out = [238u8; 4];
+    let mut shown = [46u8; 8];
+    let read = hex::hex_into(text, at, &mut out, to);
+    writer::put_hex(&mut shown, 0, &out);
+    answer_data(read);
+    shows(&shown);
+}
+
+fn number(line: &[u8], text: &[u8], at: usize, b: usize, c: usize) -> Number {
+    if starts(line, b"number") {
+        return numbers::number(text, at, b, narrow(c));
+    }
+    if starts(line, b"pair") {
+        return numbers::pair(text, at, small(b), small(c));
+    }
+    hex::hex_byte(text, at)
+}
+
+fn answer(n: Number) {
+    match n {
+        Number::Value(v, next) => {
+            tell(b": ", wide(v));
+            tell(b", next ", next);
+        }
+        Number::Bad(at) => tell(b": bad at ", at),
+    }
+}
+
+pub(crate) fn read(line: &[u8], text: &[u8], a: usize, b: usize, c: usize) {
+    if starts(line, b"byte") {
+        byte(small(a));
+    } else if starts(line, b"word") {
+        word(text, a);
+    } else if starts(line, b"trimmed") {
+        tell(b": ", words::trimmed_end(text));
+    } else if starts(line, b"named") {
+        named(line, text, a, b);
+    } else if starts(line, b"data") {
+        count(text, a);
+        data(text, a, c);
+    } else {
+        answer(number(line, text, a, b, c));
+    }
+}
