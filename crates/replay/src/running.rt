@@ -19,7 +19,6 @@ use process::Event;
 use process::State;
 use process::waits::both;
 use receiving::receive;
-use runner::Drained;
 use runner::draining::drain;
 use starting::Counts;
 use starting::idle;
