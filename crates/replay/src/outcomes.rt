@@ -23,74 +23,64 @@ pub(crate) fn word(text: &mut [u8], at: usize, name: &[u8]) -> usize {
     after(put, at)
 }
 
-fn byte_number(n: u8) -> u32 {
-    n as u32
+// What is said of an operation: the place of its name in all the names, a refusal's number, and how many bytes.
+pub struct Said {
+    pub place: usize,
+    pub number: u8,
+    pub count: usize,
 }
 
-fn refusal(text: &mut [u8], why: Refusal) -> usize {
-    let at = word(text, 0, b"refused ");
-    let put = put_decimal(text, at, byte_number(why.number()));
-    after(put, at)
+pub(crate) fn bad_operation() -> Said {
+    plain(176)
 }
 
-// A word, and the bytes in hex behind it if there are any.
-fn data(text: &mut [u8], name: &[u8], bytes: &[u8]) -> usize {
-    let at = word(text, 0, name);
-    if bytes.len() == 0 {
-        return at;
+fn plain(place: usize) -> Said {
+    Said {
+        place,
+        number: 0,
+        count: 0,
     }
-    let next = word(text, at, b" ");
-    let put = put_hex(text, next, bytes);
-    after(put, next)
 }
 
-// The place of an outcome's name in all their names.
-fn place(outcome: Outcome) -> usize {
+fn bytes(place: usize, count: usize) -> Said {
+    Said {
+        place,
+        number: 0,
+        count,
+    }
+}
+
+fn refused(why: Refusal) -> Said {
+    Said {
+        place: 160,
+        number: why.number(),
+        count: 0,
+    }
+}
+
+pub(crate) fn drained(outcome: Outcome) -> Said {
     match outcome {
-        Outcome::Quiet => 0,
-        Outcome::Sent(_) => 8,
-        Outcome::Recorded(_) => 16,
+        Outcome::Quiet => plain(0),
+        Outcome::Sent(length) => bytes(16, length.bytes),
+        Outcome::Recorded(length) => bytes(32, length.bytes),
         Outcome::Rts(switch) => {
             if switch.on {
-                return 24;
+                return plain(48);
             }
-            32
+            plain(64)
         }
-        Outcome::Fchange => 40,
-        Outcome::Pause => 48,
-        Outcome::Resume => 56,
-        Outcome::Plain => 64,
-        Outcome::Refused(_) => 72,
+        Outcome::Fchange => plain(80),
+        Outcome::Pause => plain(96),
+        Outcome::Resume => plain(112),
+        Outcome::Plain => plain(128),
+        Outcome::Refused(why) => refused(why),
     }
 }
 
-// How many bytes an outcome has.
-fn count(outcome: Outcome) -> usize {
-    match outcome {
-        Outcome::Sent(length) => length.bytes,
-        Outcome::Recorded(length) => length.bytes,
-        _ => 0,
-    }
-}
-
-// The name at a place, and the bytes: each name has eight bytes, of which the blanks at its end are left out.
-fn named(text: &mut [u8], place: usize, bytes: &[u8]) -> usize {
-    let names = b"quiet   sent    recordedrts on  rts off fchange pause   resume  plain   ";
-    let name = first(behind(names, place), 8);
-    data(text, first(name, trimmed_end(name)), bytes)
-}
-
-pub(crate) fn drained(text: &mut [u8], outcome: Outcome, bytes: &[u8; 1024]) -> usize {
-    if let Outcome::Refused(why) = outcome {
-        return refusal(text, why);
-    }
-    named(text, place(outcome), first(bytes, count(outcome)))
-}
-
-pub(crate) fn taken(text: &mut [u8], answer: Taken) -> usize {
+pub(crate) fn taken(answer: Taken) -> Said {
     match answer {
-        Taken::Took => word(text, 0, b"took"),
-        Taken::Refused(why) => refusal(text, why),
+        Taken::Took => plain(144),
+        Taken::Refused(why) => refused(why),
     }
 }
 
@@ -98,9 +88,36 @@ fn wide(n: u8) -> usize {
     n as usize
 }
 
-pub(crate) fn received(text: &mut [u8], answer: Received, b: u8) -> usize {
+pub(crate) fn received(answer: Received) -> Said {
     match answer {
-        Received::Took(c) => data(text, b"took", first(&[b, b], wide(c.count))),
-        Received::Refused(why) => refusal(text, why),
+        Received::Took(c) => bytes(144, wide(c.count)),
+        Received::Refused(why) => refused(why),
     }
+}
+
+// The name at a place: each has 16 bytes, of which the blanks at its end are left out.
+fn put_name(text: &mut [u8], place: usize) -> usize {
+    let names =
+        b"quiet           sent            recorded        rts on          rts off         fchange         pause           resume          plain           took            refused         bad operation   ";
+    let name = first(behind(names, place), 16);
+    word(text, 0, first(name, trimmed_end(name)))
+}
+
+fn byte_number(n: u8) -> u32 {
+    n as u32
+}
+
+// The name, and behind it a refusal's number, or the bytes in hex, if there are any.
+pub(crate) fn write(text: &mut [u8], said: Said, bytes: &[u8]) -> usize {
+    let at = put_name(text, said.place);
+    let next = word(text, at, b" ");
+    if 0 < said.number {
+        let put = put_decimal(text, next, byte_number(said.number));
+        return after(put, at);
+    }
+    if 0 < said.count {
+        let put = put_hex(text, next, first(bytes, said.count));
+        return after(put, at);
+    }
+    at
 }

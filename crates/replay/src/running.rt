@@ -5,6 +5,7 @@ use super::lines::Line;
 use super::operations;
 use super::operations::Operation;
 use super::outcomes;
+use super::outcomes::Said;
 use super::output::first;
 use super::output::say;
 use events::read_clock;
@@ -18,34 +19,26 @@ use process::Event;
 use process::State;
 use process::waits::both;
 use receiving::receive;
-use runner::Drained;
 use runner::draining::drain;
 use starting::Counts;
 use starting::idle;
 use starting::start;
 use words::is_named;
 
-// The state after an operation, and how long the line is that tells its outcome.
-struct Told {
+// The state after an operation, and what is said of it.
+struct Done {
     state: State,
-    length: usize,
+    said: Said,
 }
 
-fn tell_event(e: Event, text: &mut [u8]) -> Told {
-    let state = e.state;
-    let answer = e.answer;
-    let length = outcomes::taken(text, answer);
-    Told { state, length }
-}
-
-// How much of a buffer of 1,024 bytes is lent: no statement writes more than 127.
-fn lent(size: usize) -> usize
-    ensures { λ r. ⌜ r ≤ 1024 ⌝ }
+// How much of a buffer is lent. There are 1,024 bytes, and no statement writes more than 127.
+fn lent(size: usize, most: usize) -> usize
+    ensures { λ r. ⌜ r ≤ most ⌝ }
 {
-    if size < 1024 {
+    if size < most {
         return size;
     }
-    1024
+    most
 }
 
 fn do_drain<'a>(
@@ -54,23 +47,28 @@ fn do_drain<'a>(
     s: State,
     counts: &mut Counts,
     size: usize,
-    text: &mut [u8],
-) -> Told {
-    let mut space = [0u8; 1024];
-    let n = lent(size);
-    let drained = drain(cells, pool, s, counts, &mut space[..n]);
+    bytes: &mut [u8],
+) -> Done {
+    let n = lent(size, bytes.len());
+    let drained = drain(cells, pool, s, counts, &mut bytes[..n]);
     let state = drained.state;
     let outcome = drained.outcome;
-    let length = outcomes::drained(text, outcome, &space);
-    Told { state, length }
+    Done {
+        state,
+        said: outcomes::drained(outcome),
+    }
 }
 
-fn do_byte(pool: &Pool, heads: Heads, s: State, b: u8, text: &mut [u8]) -> Told {
+fn do_byte(pool: &Pool, heads: Heads, s: State, b: u8, bytes: &mut [u8; 1024]) -> Done {
+    bytes[0] = b;
+    bytes[1] = b;
     let e = receive(pool, heads, s, b);
     let state = e.state;
     let answer = e.answer;
-    let length = outcomes::received(text, answer, b);
-    Told { state, length }
+    Done {
+        state,
+        said: outcomes::received(answer),
+    }
 }
 
 fn event(s: State, asked: Operation) -> Event {
@@ -81,6 +79,16 @@ fn event(s: State, asked: Operation) -> Event {
     }
 }
 
+fn do_event(s: State, asked: Operation) -> Done {
+    let e = event(s, asked);
+    let state = e.state;
+    let answer = e.answer;
+    Done {
+        state,
+        said: outcomes::taken(answer),
+    }
+}
+
 fn operate<'a>(
     cells: &'a Cells,
     pool: &'a Pool,
@@ -88,16 +96,16 @@ fn operate<'a>(
     s: State,
     counts: &mut Counts,
     asked: Operation,
-    text: &mut [u8],
-) -> Told {
+    bytes: &mut [u8; 1024],
+) -> Done {
     match asked {
-        Operation::Drain(size) => do_drain(cells, pool, s, counts, size, text),
-        Operation::Byte(b) => do_byte(pool, heads, s, b, text),
-        Operation::Bad => {
-            let length = outcomes::word(text, 0, b"bad operation");
-            Told { state: s, length }
-        }
-        _ => tell_event(event(s, asked), text),
+        Operation::Drain(size) => do_drain(cells, pool, s, counts, size, bytes),
+        Operation::Byte(b) => do_byte(pool, heads, s, b, bytes),
+        Operation::Bad => Done {
+            state: s,
+            said: outcomes::bad_operation(),
+        },
+        _ => do_event(s, asked),
     }
 }
 
@@ -134,26 +142,11 @@ fn tell(text: &[u8], expected: i32) -> bool {
     is_expected(text, expected)
 }
 
-// The state after an operation, and whether its outcome was that of a file.
-struct Turn {
-    state: State,
-    agrees: bool,
-}
-
-fn take_turn<'a>(
-    cells: &'a Cells,
-    pool: &'a Pool,
-    heads: Heads,
-    s: State,
-    counts: &mut Counts,
-    asked: Operation,
-    expected: i32,
-) -> Turn {
+// Says what is said of an operation: whether it was that of a file.
+fn say_outcome(said: Said, bytes: &[u8; 1024], expected: i32) -> bool {
     let mut text = [0u8; 512];
-    let done = operate(cells, pool, heads, s, counts, asked, &mut text);
-    let state = done.state;
-    let agrees = tell(first(&text, done.length), expected);
-    Turn { state, agrees }
+    let n = outcomes::write(&mut text, said, bytes);
+    tell(first(&text, n), expected)
 }
 
 // How many outcomes were told, and whether each was that of a file and the file had no more.
@@ -185,6 +178,7 @@ fn run_all<'a>(
     from: i32,
     expected: i32,
 ) -> Run {
+    let mut bytes = [0u8; 1024];
     let mut state = s;
     let mut told = 0u64;
     let mut agrees = true;
@@ -193,10 +187,11 @@ fn run_all<'a>(
         if operations::is_end(asked) {
             break;
         }
-        let t = take_turn(cells, pool, heads, state, counts, asked, expected);
-        let next = t.state;
+        let done = operate(cells, pool, heads, state, counts, asked, &mut bytes);
+        let next = done.state;
         state = next;
-        agrees = both(agrees, t.agrees);
+        let said = done.said;
+        agrees = both(agrees, say_outcome(said, &bytes, expected));
         told += 1;
     }
     Run {

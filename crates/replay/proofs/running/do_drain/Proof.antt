@@ -8,8 +8,8 @@ use Rattle.replay.proofs.running.do_drain.Tie as tie
 lent-requires : tie.Need-lent-requires
 lent-requires c κs = search needs
 
-array-borrow-prefix-space : tie.Need-array-borrow-prefix-space
-array-borrow-prefix-space c = search needs
+slice-relend-prefix-drain : tie.Need-slice-relend-prefix-drain
+slice-relend-prefix-drain c = search needs
 
 slice-aggregate-drain : tie.Need-slice-aggregate-drain
 slice-aggregate-drain c = sym (length-take-le _ _ (c .before .before .lent .ensures))
@@ -31,7 +31,7 @@ do-drain-spec =
     tie.close
     (tie.spec
     lent-requires
-    array-borrow-prefix-space
+    slice-relend-prefix-drain
     slice-aggregate-drain
     drain-requires
     drained-requires

@@ -6,10 +6,12 @@ use Rattle.replay.proofs.running.run_all.Statement.{statement}
 use Rattle.replay.proofs.running.run_all.Tie as tie
 
 abbrev Inv-loop : tie.InvT-loop
-Inv-loop cells pool heads counts₀ from expected state₀ told₀ agrees₀ counts state told agrees = Unit {0}
+Inv-loop cells pool heads counts₀ from expected bytes₀ state₀ told₀ agrees₀ counts bytes state told agrees =
+    Unit {0}
 
 abbrev μ-loop : tie.MeasureT-loop
-μ-loop cells pool heads counts₀ from expected state₀ told₀ agrees₀ counts state told agrees = 18446744073709551615 - told
+μ-loop cells pool heads counts₀ from expected bytes₀ state₀ told₀ agrees₀ counts bytes state told agrees =
+    18446744073709551615 - told
 
 loop-holds : tie.Need-loop-holds Inv-loop μ-loop
 loop-holds c = search needs
@@ -20,8 +22,11 @@ next-operation-requires c κs = search needs
 is-end-requires : tie.Need-is-end-requires Inv-loop μ-loop
 is-end-requires c κs = search needs
 
-take-turn-requires : tie.Need-take-turn-requires Inv-loop μ-loop
-take-turn-requires c κs = search needs
+operate-requires : tie.Need-operate-requires Inv-loop μ-loop
+operate-requires c κs = search needs
+
+say-outcome-requires : tie.Need-say-outcome-requires Inv-loop μ-loop
+say-outcome-requires c κs = search needs
 
 both-requires : tie.Need-both-requires Inv-loop μ-loop
 both-requires c κs = search needs
@@ -53,7 +58,8 @@ run-all-spec =
     loop-holds
     next-operation-requires
     is-end-requires
-    take-turn-requires
+    operate-requires
+    say-outcome-requires
     both-requires
     add-told
     loop-less
