@@ -5,3 +5,4 @@ pub mod Scripts
 pub mod Verdicts
 pub mod Places
 pub mod Cases
+pub mod Others

@@ -62,22 +62,13 @@ fn role_of(c: Cell) -> Role
     ensures { λ r. ⌜ marked r ≡ cellMark c ⌝ }
 {
     match c {
-        Cell::Nothing => Role::Other,
-        Cell::Send(_) => Role::Other,
         Cell::Loop(n) => Role::Loop(n as u32),
         Cell::End => Role::End,
         Cell::WaitTime(n) => rest_above_zero(n),
         Cell::WaitData(_) => Role::SureRest,
         Cell::WaitByte(n) => rest_above_zero(n as u32),
         Cell::WaitClock(_) => Role::SureRest,
-        Cell::WaitSignal(_) => Role::Other,
-        Cell::Rts(_) => Role::Other,
-        Cell::Log(_) => Role::Other,
-        Cell::Fchange => Role::Other,
-        Cell::Pause => Role::Other,
-        Cell::Resume => Role::Other,
-        Cell::Nop => Role::Other,
-        Cell::Unknown => Role::Other,
+        _ => Role::Other,
     }
 }
 
