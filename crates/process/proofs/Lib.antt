@@ -1,2 +1,3 @@
 pub mod WaitCases
 pub mod Loops
+pub mod Others

@@ -59,12 +59,7 @@ impl Wait {
     {
         match self {
             Wait::Ready => true,
-            Wait::Over => false,
-            Wait::Ticks(_) => false,
-            Wait::Bytes(_) => false,
-            Wait::Data(_) => false,
-            Wait::ClockValue(_) => false,
-            Wait::Signal(_) => false,
+            _ => false,
         }
     }
 
@@ -73,18 +68,13 @@ impl Wait {
         ensures { λ r. ⌜ r ≡ tickedWait place end self ⌝ }
     {
         match self {
-            Wait::Ready => self,
-            Wait::Over => self,
             Wait::Ticks(n) => {
                 if n <= 1 {
                     return awaken(place, end);
                 }
                 Wait::Ticks(n - 1)
             }
-            Wait::Bytes(_) => self,
-            Wait::Data(_) => self,
-            Wait::ClockValue(_) => self,
-            Wait::Signal(_) => self,
+            _ => self,
         }
     }
 
@@ -93,18 +83,13 @@ impl Wait {
         ensures { λ w. ⌜ w ≡ readingWait r place end self ⌝ }
     {
         match self {
-            Wait::Ready => self,
-            Wait::Over => self,
-            Wait::Ticks(_) => self,
-            Wait::Bytes(_) => self,
-            Wait::Data(_) => self,
             Wait::ClockValue(c) => {
                 if clock_matches(c, r) {
                     return awaken(place, end);
                 }
                 self
             }
-            Wait::Signal(_) => self,
+            _ => self,
         }
     }
 
@@ -113,18 +98,13 @@ impl Wait {
         ensures { λ w. ⌜ w ≡ levelWait e place end self ⌝ }
     {
         match self {
-            Wait::Ready => self,
-            Wait::Over => self,
-            Wait::Ticks(_) => self,
-            Wait::Bytes(_) => self,
-            Wait::Data(_) => self,
-            Wait::ClockValue(_) => self,
             Wait::Signal(l) => {
                 if sets_level(l, e) {
                     return awaken(place, end);
                 }
                 self
             }
+            _ => self,
         }
     }
 }

@@ -1,28 +1,11 @@
 -- `process::Wait::level` meets its contract: each arm is given which variant the wait is. Assumes nothing.
-use Rattle.process.proofs.WaitCases.{level-ends, level-stays}
-use Rattle.process.specs.Waiting.{levelWait}
 use mathlib.Core.Path.{sym, ap, _∙_}
+use Rattle.process.specs.Waiting.{levelWait}
+use Rattle.process.proofs.WaitCases.{level-ends, level-stays}
+use Rattle.process.proofs.Others.{levels-past}
 use borrow.Author.Needs.{needs}
 use Rattle.process.proofs.Wait.level.Statement.{statement}
 use Rattle.process.proofs.Wait.level.Tie as tie
-
-enum-told : tie.Need-enum-told
-enum-told c = search needs
-
-enum-told-2 : tie.Need-enum-told-2
-enum-told-2 c = search needs
-
-enum-told-3 : tie.Need-enum-told-3
-enum-told-3 c = search needs
-
-enum-told-4 : tie.Need-enum-told-4
-enum-told-4 c = search needs
-
-enum-told-5 : tie.Need-enum-told-5
-enum-told-5 c = search needs
-
-enum-told-6 : tie.Need-enum-told-6
-enum-told-6 c = search needs
 
 enum-known-self : tie.Need-enum-known-self
 enum-known-self c = search needs
@@ -34,52 +17,20 @@ awaken-requires : tie.Need-awaken-requires
 awaken-requires c κs = search needs
 
 returns : tie.Need-returns
-returns c = let w = c .before .before .before .before in
+returns c =
+    let w = c .before .before .before .before in
     let a = w .before .before .args in
     c .awaken .ensures
     ∙ sym (ap (levelWait (a .e) (a .place) (a .end)) (w .self .given .1) ∙ level-ends (a .place) (a .end) (a .e) _ (sym (c .before .before .sets-level .ensures) ∙ c .before .if1 .taken))
 
 returns-2 : tie.Need-returns-2
-returns-2 c = search needs
-
-returns-3 : tie.Need-returns-3
-returns-3 c = search needs
-
-returns-4 : tie.Need-returns-4
-returns-4 c = search needs
-
-returns-5 : tie.Need-returns-5
-returns-5 c = search needs
-
-returns-6 : tie.Need-returns-6
-returns-6 c = search needs
-
-returns-7 : tie.Need-returns-7
-returns-7 c = search needs
-
-returns-8 : tie.Need-returns-8
-returns-8 c = let w = c .before .before .before in
+returns-2 c =
+    let w = c .before .before .before in
     let a = w .before .before .args in
     sym (ap (levelWait (a .e) (a .place) (a .end)) (w .self .given .1) ∙ level-stays (a .place) (a .end) (a .e) _ (sym (c .before .sets-level .ensures) ∙ c .if1 .left))
 
+returns-3 : tie.Need-returns-3
+returns-3 c = let a = c .before .args in levels-past (a .place) (a .end) (a .e) (a .self) (c .match .keys2)
+
 pub level-spec : {M : Type 1} → statement M
-level-spec =
-    tie.close
-    (tie.spec
-    enum-told
-    enum-told-2
-    enum-told-3
-    enum-told-4
-    enum-told-5
-    enum-told-6
-    enum-known-self
-    sets-level-requires
-    awaken-requires
-    returns
-    returns-2
-    returns-3
-    returns-4
-    returns-5
-    returns-6
-    returns-7
-    returns-8)
+level-spec = tie.close (tie.spec enum-known-self sets-level-requires awaken-requires returns returns-2 returns-3)

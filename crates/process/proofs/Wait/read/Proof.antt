@@ -1,25 +1,11 @@
 -- `process::Wait::read` meets its contract: each arm is given which variant the wait is. Assumes nothing.
-use Rattle.process.proofs.WaitCases.{clock-ends, clock-stays}
-use Rattle.process.specs.Waiting.{readingWait}
 use mathlib.Core.Path.{sym, ap, _∙_}
+use Rattle.process.specs.Waiting.{readingWait}
+use Rattle.process.proofs.WaitCases.{clock-ends, clock-stays}
+use Rattle.process.proofs.Others.{reads-past}
 use borrow.Author.Needs.{needs}
 use Rattle.process.proofs.Wait.read.Statement.{statement}
 use Rattle.process.proofs.Wait.read.Tie as tie
-
-enum-told : tie.Need-enum-told
-enum-told c = search needs
-
-enum-told-2 : tie.Need-enum-told-2
-enum-told-2 c = search needs
-
-enum-told-3 : tie.Need-enum-told-3
-enum-told-3 c = search needs
-
-enum-told-4 : tie.Need-enum-told-4
-enum-told-4 c = search needs
-
-enum-told-5 : tie.Need-enum-told-5
-enum-told-5 c = search needs
 
 enum-known-self : tie.Need-enum-known-self
 enum-known-self c = search needs
@@ -31,55 +17,20 @@ awaken-requires : tie.Need-awaken-requires
 awaken-requires c κs = search needs
 
 returns : tie.Need-returns
-returns c = let w = c .before .before .before .before in
+returns c =
+    let w = c .before .before .before .before in
     let a = w .before .before .args in
     c .awaken .ensures
     ∙ sym (ap (readingWait (a .r) (a .place) (a .end)) (w .self .given .1) ∙ clock-ends (a .place) (a .end) (a .r) _ (sym (c .before .before .clock-matches .ensures) ∙ c .before .if1 .taken))
 
-enum-told-6 : tie.Need-enum-told-6
-enum-told-6 c = search needs
-
 returns-2 : tie.Need-returns-2
-returns-2 c = search needs
-
-returns-3 : tie.Need-returns-3
-returns-3 c = search needs
-
-returns-4 : tie.Need-returns-4
-returns-4 c = search needs
-
-returns-5 : tie.Need-returns-5
-returns-5 c = search needs
-
-returns-6 : tie.Need-returns-6
-returns-6 c = search needs
-
-returns-7 : tie.Need-returns-7
-returns-7 c = let w = c .before .before .before in
+returns-2 c =
+    let w = c .before .before .before in
     let a = w .before .before .args in
     sym (ap (readingWait (a .r) (a .place) (a .end)) (w .self .given .1) ∙ clock-stays (a .place) (a .end) (a .r) _ (sym (c .before .clock-matches .ensures) ∙ c .if1 .left))
 
-returns-8 : tie.Need-returns-8
-returns-8 c = search needs
+returns-3 : tie.Need-returns-3
+returns-3 c = let a = c .before .args in reads-past (a .place) (a .end) (a .r) (a .self) (c .match .keys2)
 
 pub read-spec : {M : Type 1} → statement M
-read-spec =
-    tie.close
-    (tie.spec
-    enum-told
-    enum-told-2
-    enum-told-3
-    enum-told-4
-    enum-told-5
-    enum-known-self
-    clock-matches-requires
-    awaken-requires
-    returns
-    enum-told-6
-    returns-2
-    returns-3
-    returns-4
-    returns-5
-    returns-6
-    returns-7
-    returns-8)
+read-spec = tie.close (tie.spec enum-known-self clock-matches-requires awaken-requires returns returns-2 returns-3)

@@ -2,16 +2,11 @@
 use mathlib.Core.Path.{sym, ap, _∙_}
 use Rattle.process.specs.Waiting.{tickedWait}
 use Rattle.process.proofs.WaitCases.{ticks-end, ticks-on}
+use Rattle.process.proofs.Others.{ticks-past}
 use borrow.Author.Tests.{le-leb, lt-leb}
 use borrow.Author.Needs.{needs}
 use Rattle.process.proofs.Wait.tick.Statement.{statement}
 use Rattle.process.proofs.Wait.tick.Tie as tie
-
-enum-told : tie.Need-enum-told
-enum-told c = search needs
-
-enum-told-2 : tie.Need-enum-told-2
-enum-told-2 c = search needs
 
 enum-known-self : tie.Need-enum-known-self
 enum-known-self c = search needs
@@ -29,60 +24,14 @@ returns c =
 sub-t7 : tie.Need-sub-t7
 sub-t7 c = search needs
 
-enum-told-3 : tie.Need-enum-told-3
-enum-told-3 c = search needs
-
-enum-told-4 : tie.Need-enum-told-4
-enum-told-4 c = search needs
-
-enum-told-5 : tie.Need-enum-told-5
-enum-told-5 c = search needs
-
-enum-told-6 : tie.Need-enum-told-6
-enum-told-6 c = search needs
-
 returns-2 : tie.Need-returns-2
-returns-2 c = search needs
-
-returns-3 : tie.Need-returns-3
-returns-3 c = search needs
-
-returns-4 : tie.Need-returns-4
-returns-4 c =
+returns-2 c =
     let w = c .before .before in
     let a = w .before .before .args in
     sym (ap (tickedWait (a .place) (a .end)) (w .self .given .1) ∙ ticks-on (a .place) (a .end) (w .self .given .0 .0) (lt-leb (w .self .given .0 .0) 1 (c .if1 .left)))
 
-returns-5 : tie.Need-returns-5
-returns-5 c = search needs
-
-returns-6 : tie.Need-returns-6
-returns-6 c = search needs
-
-returns-7 : tie.Need-returns-7
-returns-7 c = search needs
-
-returns-8 : tie.Need-returns-8
-returns-8 c = search needs
+returns-3 : tie.Need-returns-3
+returns-3 c = let a = c .before .args in ticks-past (a .place) (a .end) (a .self) (c .match .keys2)
 
 pub tick-spec : {M : Type 1} → statement M
-tick-spec =
-    tie.close
-    (tie.spec
-    enum-told
-    enum-told-2
-    enum-known-self
-    awaken-requires
-    returns
-    sub-t7
-    enum-told-3
-    enum-told-4
-    enum-told-5
-    enum-told-6
-    returns-2
-    returns-3
-    returns-4
-    returns-5
-    returns-6
-    returns-7
-    returns-8)
+tick-spec = tie.close (tie.spec enum-known-self awaken-requires returns sub-t7 returns-2 returns-3)
