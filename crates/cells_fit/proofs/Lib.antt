@@ -1,3 +1,4 @@
 pub mod Data
 pub mod Reaching
 pub mod Fitting
+pub mod Others

@@ -108,20 +108,10 @@ fn after_word(w: u32, pool: &Pool, at: usize) -> Reach
     match c {
         Cell::Nothing => Reach::Not,
         Cell::Send(s) => after_data(s, pool, at, 126),
-        Cell::Loop(_) => Reach::To(at),
-        Cell::End => Reach::To(at),
-        Cell::WaitTime(_) => Reach::To(at),
         Cell::WaitData(s) => after_data(s, pool, at, 115),
-        Cell::WaitByte(_) => Reach::To(at),
-        Cell::WaitClock(_) => Reach::To(at),
-        Cell::WaitSignal(_) => Reach::To(at),
-        Cell::Rts(_) => Reach::To(at),
         Cell::Log(s) => after_log(s, pool, at),
-        Cell::Fchange => Reach::To(at),
-        Cell::Pause => Reach::To(at),
-        Cell::Resume => Reach::To(at),
-        Cell::Nop => Reach::To(at),
         Cell::Unknown => Reach::Not,
+        _ => Reach::To(at),
     }
 }
 
