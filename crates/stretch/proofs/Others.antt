@@ -1,4 +1,4 @@
--- The cells that are no rest and no part of a loop, by their tags: the code's last arm. Assumes nothing.
+-- The cells that are no wait and no part of a loop, by their tags: the code's last arm. Assumes nothing.
 use Prim.Native.Nat.{ℕ}
 use mathlib.Core.Path.{_≡_, refl}
 use mathlib.Core.List.{List, [], _∷_}
@@ -13,7 +13,7 @@ use Rattle.language.proofs.Cell.{the-type}
 use Rattle.stretch.specs.Marks.{cellMark}
 
 abbrev others : List ℕ
-others = 0 ∷ 1 ∷ 8 ∷ 9 ∷ 10 ∷ 11 ∷ 12 ∷ 13 ∷ 14 ∷ 15 ∷ []
+others = 0 ∷ 1 ∷ 9 ∷ 10 ∷ 11 ∷ 12 ∷ 13 ∷ 14 ∷ 15 ∷ []
 
 pub other-plain : (c : Cell) → OneOf others (tagOf the-type c) → plain ≡ cellMark c
 unfolding cellMark markOf statementOf
@@ -25,7 +25,7 @@ other-plain (WaitTime n) h = absurd (miss others 4 tt h)
 other-plain (WaitData s) h = absurd (miss others 5 tt h)
 other-plain (WaitByte n) h = absurd (miss others 6 tt h)
 other-plain (WaitClock k) h = absurd (miss others 7 tt h)
-other-plain (WaitSignal l) h = refl
+other-plain (WaitSignal l) h = absurd (miss others 8 tt h)
 other-plain (Rts on) h = refl
 other-plain (Log s) h = refl
 other-plain Fchange h = refl

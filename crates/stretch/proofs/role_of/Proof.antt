@@ -36,7 +36,11 @@ unfolding cellMark markOf statementOf
 returns-6 c = search needs
 
 returns-7 : tie.Need-returns-7
-returns-7 c = other-plain (c .before .args .c) (c .match .keys7)
+unfolding cellMark markOf statementOf
+returns-7 c = search needs
+
+returns-8 : tie.Need-returns-8
+returns-8 c = other-plain (c .before .args .c) (c .match .keys8)
 
 pub role-of-spec : {M : Type 1} → statement M
 role-of-spec =
@@ -52,10 +56,12 @@ role-of-spec =
     (λ c. search needs)
     free
     (λ c. search needs)
+    (λ c. search needs)
     returns
     returns-2
     returns-3
     returns-4
     returns-5
     returns-6
-    returns-7)
+    returns-7
+    returns-8)
