@@ -1,6 +1,7 @@
 -- What the definitions of loops come to, case by case: a proof cites a case. Assumes nothing.
 use Prim.Native.Nat.{ℕ, _+_, _-_, _≤_, _<_}
-use mathlib.Core.Path.{_≡_}
+use mathlib.Core.Path.{_≡_, sym, ap}
+use mathlib.Core.Bool.{Bool, cond}
 use mathlib.Core.List.{List}
 use lib.ListN.{getD, set}
 use borrow.Author.Tests.{lt-ltb, le-ltb, le-leb, lt-leb, eq-eqb, ne-eqb}
@@ -13,7 +14,8 @@ module _ (p : Process) where
   pub open-room : (next n : ℕ) → p .depth < loopLimit
       → goes p next (p .depth + 1) (set (p .left) (p .depth) n) (set (p .back) (p .depth) next) ≡ opened p next n
   unfolding opened
-  open-room next n h = rw (lt-ltb (p .depth) loopLimit h)
+  open-room next n h =
+      sym (ap (λ (t : Bool). cond t (goes p next (p .depth + 1) (set (p .left) (p .depth) n) (set (p .back) (p .depth) next)) (astray p)) (lt-ltb (p .depth) loopLimit h))
 
   pub open-ninth : (next n : ℕ) → loopLimit ≤ p .depth → astray p ≡ opened p next n
   unfolding opened
