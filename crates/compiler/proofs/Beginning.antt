@@ -12,9 +12,9 @@ use Rattle.language.specs.Limits.{processLimit}
 use Rattle.language.specs.Script.{Item, next}
 use Rattle.language.specs.Draft.{Draft, withNext, withFirst, beginning, takeProcess}
 use Rattle.language.specs.Table.{wordsFrom, endsFrom, headsOf}
-use Rattle.compiler.specs.declared.Work.{Work}
-use Rattle.compiler.specs.declared.Step.the-variants.{Stop}
-use Rattle.compiler.specs.declared.Taken as code
+use Rattle.work.specs.declared.Work.{Work}
+use Rattle.work.specs.declared.Step.the-variants.{Stop}
+use Rattle.work.specs.declared.Taken as code
 use Rattle.compiler.specs.Stands.{stacked, Stands, Took, Takes}
 use Rattle.compiler.proofs.Padding.{set-behind}
 use Rattle.compiler.proofs.Bodies.{pool-next, words-next, ends-next}

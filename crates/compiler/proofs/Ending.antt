@@ -18,7 +18,7 @@ use Rattle.language.proofs.Sound.{Sound}
 use Rattle.stretch.specs.declared.Measured.the-variants.{Largest, Over, Broken}
 use Rattle.stretch.specs.Measured.{measured}
 use Rattle.stretch.proofs.Verdicts.{script-largest, script-over, script-nests}
-use Rattle.compiler.specs.declared.Work.{Work}
+use Rattle.work.specs.declared.Work.{Work}
 use Rattle.compiler.specs.Stands.{scriptIn, Stands}
 use Rattle.compiler.proofs.Nesting.{innermost}
 

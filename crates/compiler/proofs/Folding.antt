@@ -22,11 +22,12 @@ use Rattle.language.specs.Listing.{bodyLines}
 use Rattle.language.proofs.Folding.{items-length}
 use Rattle.language.proofs.Cutting.{NoLf, cr-length, AllInLine}
 use Rattle.language.proofs.Sound.{Sound, needs-listed, Holds, line-on, start-sound}
-use Rattle.compiler.specs.declared.Work.{Work}
-use Rattle.compiler.specs.declared.Step.{Step}
-use Rattle.compiler.specs.declared.Step.the-variants.{Going, Stop}
-use Rattle.compiler.specs.declared.Taken as code
-use Rattle.compiler.specs.Stands.{scriptIn, stacked, Stands, Took, Ready, noLines}
+use Rattle.work.specs.declared.Work.{Work}
+use Rattle.work.specs.declared.Step.{Step}
+use Rattle.work.specs.declared.Step.the-variants.{Going, Stop}
+use Rattle.work.specs.declared.Taken as code
+use Rattle.work.specs.Begun.{noLines}
+use Rattle.compiler.specs.Stands.{scriptIn, stacked, Stands, Took, Ready}
 use Rattle.compiler.specs.Text.{part}
 use Rattle.compiler.proofs.Texts.{part-none, part-length, no-lines, in-lines, no-lf-more, feed-ends, text-ends, begins, first-lines}
 use Rattle.compiler.proofs.Writing.{never}

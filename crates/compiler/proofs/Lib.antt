@@ -10,4 +10,3 @@ pub mod Texts
 pub mod Lining
 pub mod Ending
 pub mod Folding
-pub mod Asking

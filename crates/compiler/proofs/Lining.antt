@@ -19,10 +19,11 @@ use Rattle.language.specs.Right.{inLine, meaningRight}
 use Rattle.language.specs.Draft.{Draft, countLine, takeCounted, isComment, takeLine}
 use Rattle.language.proofs.Meanings.{meaning-right}
 use Rattle.language.proofs.Tables.{data-room, data-few}
-use Rattle.compiler.specs.declared.Work.{Work}
-use Rattle.compiler.specs.declared.Step.the-variants.{Stop}
-use Rattle.compiler.specs.declared.Taken as code
-use Rattle.compiler.specs.Stands.{Stands, Took, Within, Ready, bytesIn, Steps, commentLine}
+use Rattle.work.specs.declared.Work.{Work}
+use Rattle.work.specs.declared.Step.the-variants.{Stop}
+use Rattle.work.specs.declared.Taken as code
+use Rattle.work.specs.Begun.{commentLine}
+use Rattle.compiler.specs.Stands.{Stands, Took, Within, Ready, bytesIn, Steps}
 use Rattle.compiler.proofs.Standing.{Goes, goes}
 use Rattle.compiler.proofs.Stepping.{bytes-told, steps-on}
 

@@ -10,9 +10,9 @@ use Rattle.language.specs.declared.Fault.the-variants.{TooManyLoops, EndWithout
 use Rattle.language.specs.Limits.{loopLimit}
 use Rattle.language.specs.Script.{Shape, opens, closes, stays}
 use Rattle.language.specs.Draft.{Draft, nest}
-use Rattle.compiler.specs.declared.Work.{Work}
-use Rattle.compiler.specs.declared.Step.the-variants.{Stop}
-use Rattle.compiler.specs.declared.Taken as code
+use Rattle.work.specs.declared.Work.{Work}
+use Rattle.work.specs.declared.Step.the-variants.{Stop}
+use Rattle.work.specs.declared.Taken as code
 use Rattle.compiler.specs.Stands.{stacked, Stands, Took, Takes, withLoops, nestedIn, Nests}
 use Rattle.compiler.proofs.Standing.{Goes, goes}
 

@@ -16,9 +16,9 @@ use Rattle.language.specs.Script.{setEncode, setStopbits, setLfext, Settings}
 use Rattle.language.specs.Draft as draft
 use Rattle.language.specs.Draft.{Draft, going, withSettings, takeOmit}
 use Rattle.language.specs.Table.{padded, headsOf}
-use Rattle.compiler.specs.declared.Work.{Work}
-use Rattle.compiler.specs.declared.Step.the-variants.{Stop}
-use Rattle.compiler.specs.declared.Taken as code
+use Rattle.work.specs.declared.Work.{Work}
+use Rattle.work.specs.declared.Step.the-variants.{Stop}
+use Rattle.work.specs.declared.Taken as code
 use Rattle.compiler.specs.Stands.{Stands, Took, Takes, Fronts}
 use Rattle.compiler.proofs.Padding.{padded-length, put-behind, front-of}
 use Rattle.compiler.proofs.Standing.{Goes, goes}

@@ -8,9 +8,9 @@ use Rattle.language.specs.Limits.{processLimit}
 use Rattle.language.specs.Script.{Settings, Item}
 use Rattle.language.specs.Draft.{Draft, going}
 use Rattle.language.specs.Table.{padded, poolOf, endsFrom, headsOf}
-use Rattle.compiler.specs.declared.Work.{Work}
-use Rattle.compiler.specs.declared.Step.the-variants.{Going}
-use Rattle.compiler.specs.declared.Taken as code
+use Rattle.work.specs.declared.Work.{Work}
+use Rattle.work.specs.declared.Step.the-variants.{Going}
+use Rattle.work.specs.declared.Taken as code
 use Rattle.compiler.specs.Stands.{Stands, Took}
 
 -- the lines go on with this work

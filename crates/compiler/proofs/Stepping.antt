@@ -13,8 +13,8 @@ use Rattle.language.specs.Script.{Meaning, comment, blank, process, setEx, says
 use Rattle.language.specs.Meaning.{extension, isCapital}
 use Rattle.language.specs.Right.{meaningRight}
 use Rattle.language.specs.Draft as draft
-use Rattle.compiler.specs.declared.Work.{Work}
-use Rattle.compiler.specs.declared.Taken as code
+use Rattle.work.specs.declared.Work.{Work}
+use Rattle.work.specs.declared.Taken as code
 use Rattle.compiler.specs.Stands.{Fronts, bytesIn, Into, Steps}
 use Rattle.compiler.proofs.Writing.{told}
 

@@ -16,12 +16,12 @@ use Rattle.language.specs.Script.{Statement, send, loop, end, waitTime, waitDat
 use Rattle.language.specs.Draft.{Draft, Nested, now, broken, nest, going, withItem, takeNested, takeStatement}
 use Rattle.language.specs.Cell.{coded}
 use Rattle.language.specs.Table.{padded, cellFor, wordsFrom, poolOf, endsFrom, headsOf}
-use Rattle.compiler.specs.declared.Work.{Work}
-use Rattle.compiler.specs.declared.Asks.{Asks}
-use Rattle.compiler.specs.declared.Step.{Step}
-use Rattle.compiler.specs.declared.Step.the-variants.{Going, Stop}
-use Rattle.compiler.specs.declared.Taken as code
-use Rattle.compiler.specs.Cells.{asksOf, countIn, shapeIn, placedAt}
+use Rattle.work.specs.declared.Work.{Work}
+use Rattle.work.specs.declared.Asks.{Asks}
+use Rattle.work.specs.declared.Step.{Step}
+use Rattle.work.specs.declared.Step.the-variants.{Going, Stop}
+use Rattle.work.specs.declared.Taken as code
+use Rattle.work.specs.Cells.{asksOf, countIn, shapeIn, placedAt}
 use Rattle.compiler.specs.Stands.{Stands, Took, withLoops, nestedIn, Nests, Within, Fits, Writes}
 use Rattle.compiler.proofs.Padding.{padded-length, put-behind, set-behind, set-last, front-of}
 use Rattle.compiler.proofs.Bodies.{pool-does, words-does, Ends, ends-does}

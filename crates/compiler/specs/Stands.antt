@@ -2,13 +2,11 @@
 -- definitions.
 use Prim.Native.Nat.{ℕ, _+_, _≤_, _<_}
 use mathlib.Core.Path.{_≡_}
-use mathlib.Core.Bool.{Bool, true, false}
 use mathlib.Core.List.{List, [], _∷_, _++_}
-use lib.ListN.{length, take, replicate}
+use lib.ListN.{length, take}
 use lib.Seq.{sets}
-use Rattle.reader.specs.Ascii.{ascii}
 use Rattle.language.specs.declared.Cell.{Cell}
-use Rattle.language.specs.Limits.{linesLimit, dataLimit, omitLimit, loopLimit, processLimit}
+use Rattle.language.specs.Limits.{linesLimit, dataLimit, loopLimit, processLimit}
 use Rattle.language.specs.Script.{Statement, setEncode, setStopbits, setLfext, Script, Shape, dataOf}
 use Rattle.language.specs.Draft as draft
 use Rattle.language.specs.Draft.{Draft, Nested, now, broken, nest, Taken, going, stop, takeStatement, takeProcess, takeOmit}
@@ -16,10 +14,10 @@ use Rattle.language.specs.Table.{padded, cellFor, wordsFrom, poolOf, endsFrom, 
 use Rattle.arguments.specs.declared.Line.{Line}
 use Rattle.arguments.specs.declared.Line.the-variants.{Comment, Blank, Process, Ex, Says, Encode, Stopbits, Omit, Lfext, Faulty}
 use Rattle.arguments.specs.Shown.{lettersFrom}
-use Rattle.compiler.specs.declared.Work.{Work}
-use Rattle.compiler.specs.declared.Step.the-variants.{Going, Stop}
-use Rattle.compiler.specs.declared.Taken as code
-use Rattle.compiler.specs.Cells.{asksOf, countIn}
+use Rattle.work.specs.declared.Work.{Work}
+use Rattle.work.specs.declared.Step.the-variants.{Going, Stop}
+use Rattle.work.specs.declared.Taken as code
+use Rattle.work.specs.Cells.{asksOf, countIn}
 
 -- the script so far
 abbrev pub scriptIn : Draft → Script
@@ -129,39 +127,3 @@ module _ (row : ℕ) (lent : List ℕ) (w : Work) (cells pool : List ℕ) (r : c
   Steps (Omit n) = (bs : List ℕ) → n ≡ length bs → Fronts lent bs → Into (λ st. takeOmit row st (st .settings) bs)
   Steps (Lfext e) = (l : List ℕ) → length l ≤ 3 → e ≡ lettersFrom l → Into (λ st. draft.take row st (setLfext l))
   Steps (Faulty f) = r .step ≡ Stop f row
-
--- "At most 512 lines besides comments"
-abbrev pub commentLine : Line → Bool
-commentLine Comment = true
-commentLine Blank = false
-commentLine Process = false
-commentLine Ex = false
-commentLine (Says c) = false
-commentLine (Encode b) = false
-commentLine (Stopbits two) = false
-commentLine (Omit n) = false
-commentLine (Lfext e) = false
-commentLine (Faulty f) = false
-
--- the work before the first line
-abbrev pub noLines : Work
-noLines =
-    record {
-      counted = 0;
-      cells = 0;
-      opened = 0;
-      loops = replicate loopLimit 0;
-      begun = false;
-      heads =
-          record {
-            processes = 1;
-            ends = replicate processLimit 0;
-            used = 0;
-            encodes = false;
-            encode = 0;
-            «two_stop_bits» = false;
-            omits = 0;
-            omit = replicate omitLimit 0;
-            extension = ascii "LOG";
-          };
-    }

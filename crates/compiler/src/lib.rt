@@ -5,26 +5,21 @@ ghost use Prim.Native.Nat.{_≤_};
 ghost use lib.ListN.{length};
 ghost use Rattle.reader.specs.Bytes.{all};
 ghost use Rattle.language.specs.Answer.{answered, compiled};
-ghost use Rattle.language.specs.Draft.{Draft, refused, finished, takeLine};
+ghost use Rattle.language.specs.Draft.{Draft, finished, takeLine};
 ghost use Rattle.language.specs.Limits.{textLimit, loopLimit};
 ghost use Rattle.language.specs.Lines.{dropCr};
 ghost use Rattle.language.specs.Right.{inLine};
 ghost use Rattle.language.specs.Stretch.{stretchOf};
 ghost use Rattle.language.proofs.Sound.{Sound};
-ghost use Rattle.compiler.specs.Stands.{scriptIn, Stands, Took, Ready, commentLine, noLines};
+ghost use Rattle.compiler.specs.Stands.{scriptIn, Stands, Took, Ready};
 ghost use Rattle.compiler.specs.Text.{part};
-use arguments::Line;
 use language::Answer;
 use language::Cells;
 use language::Compiled;
 use language::DATA;
 use language::Fault;
-use language::Heads;
 use language::LINE;
 use language::LINES;
-use language::LOOPS;
-use language::OMITS;
-use language::PROCESSES;
 use language::Pool;
 use language::TEXT;
 use language::Table;
@@ -33,63 +28,16 @@ use meaning::ROOM;
 use meaning::read_line;
 use stretch::Measured;
 use stretch::largest;
+use work::Step;
+use work::Taken;
+use work::Work;
+use work::going;
+use work::is_comment;
+use work::no_lines;
+use work::refusal;
+use work::stop;
 
-mod cells;
 mod steps;
-
-// The script under construction, as far as it does not stand in the cells and the pool.
-struct Work {
-    // How many lines besides comments there were, and how many cells are written.
-    pub counted: u16,
-    pub cells: u16,
-    // How many loops are open, and the lines that they began at, the outermost first.
-    pub opened: u8,
-    pub loops: [u32; LOOPS],
-    // Whether a statement or a PROCESS line has come.
-    pub begun: bool,
-    // The heads of the table that the script so far has.
-    pub heads: Heads,
-}
-
-// Whether the lines go on, or which fault ends them, with the line that it names.
-enum Step {
-    Going,
-    Stop(Fault, u32),
-}
-
-// What a line does.
-struct Taken {
-    pub step: Step,
-    pub work: Work,
-}
-
-// What a statement asks for: room for so many bytes of data, a loop to be opened, a loop to be closed, or nothing.
-enum Asks {
-    Sending(u16),
-    Awaiting(u16),
-    Logging(u16),
-    Opening,
-    Closing,
-    Plain,
-}
-
-// Whether a line is a comment, which is not counted: "At most 512 lines besides comments".
-fn is_comment(line: Line) -> bool
-    ensures { λ r. ⌜ r ≡ commentLine line ⌝ }
-{
-    match line {
-        Line::Comment => true,
-        Line::Blank => false,
-        Line::Process => false,
-        Line::Ex => false,
-        Line::Says(_) => false,
-        Line::Encode(_) => false,
-        Line::Stopbits(_) => false,
-        Line::Omit(_) => false,
-        Line::Lfext(_) => false,
-        Line::Faulty(_) => false,
-    }
-}
 
 // Takes one line, without its LF and CR, into the work so far. "line over 127", "513th counted line".
 fn take_line(
@@ -104,15 +52,15 @@ fn take_line(
     ensures { λ r. ⌜ ((st : Draft) → Stands st work (now (cells .entry)) (now (pool .entry)) → Took (takeLine row st (now (line .entry))) r (now (cells .exit)) (now (pool .exit))) ⌝ }
 {
     if LINE < line.len() {
-        return steps::stop(Fault::LineTooLong, row, work);
+        return stop(Fault::LineTooLong, row, work);
     }
     let said = read_line(line, lent);
     if is_comment(said) {
-        return steps::going(work);
+        return going(work);
     }
     let counted = work.counted;
     if LINES <= counted as usize {
-        return steps::stop(Fault::TooManyLines, row, work);
+        return stop(Fault::TooManyLines, row, work);
     }
     let mut next = work;
     next.counted = counted + 1;
@@ -130,55 +78,6 @@ fn without_cr(text: &[u8], start: usize, end: usize) -> usize
         }
     }
     end
-}
-
-// The work before the first line: one process, and the settings that hold where no line sets them.
-fn no_lines() -> Work
-    ensures { λ r. ⌜ r ≡ noLines ⌝ }
-{
-    let heads = Heads {
-        processes: 1,
-        ends: [0u16; PROCESSES],
-        used: 0,
-        encodes: false,
-        encode: 0,
-        two_stop_bits: false,
-        omits: 0,
-        omit: [0u8; OMITS],
-        extension: [b'L', b'O', b'G'],
-    };
-    Work {
-        counted: 0,
-        cells: 0,
-        opened: 0,
-        loops: [0u32; LOOPS],
-        begun: false,
-        heads,
-    }
-}
-
-// A refusal, with a table of zeros.
-fn refusal(fault: Fault, row: u32) -> Compiled
-    ensures { λ r. ⌜ r ≡ answered (refused fault row) ⌝ }
-{
-    let heads = Heads {
-        processes: 0,
-        ends: [0u16; PROCESSES],
-        used: 0,
-        encodes: false,
-        encode: 0,
-        two_stop_bits: false,
-        omits: 0,
-        omit: [0u8; OMITS],
-        extension: [0u8; 3],
-    };
-    let table = Table {
-        cells: [0u32; LINES],
-        pool: [0u8; DATA],
-        heads,
-    };
-    let answer = Answer::Refused(fault, row);
-    Compiled { answer, table }
 }
 
 // The end of the text. "loop open at .. the end of text", "stretch over 4,096".

@@ -9,15 +9,8 @@ ghost use Rattle.language.specs.Script.{Statement, Settings, setEncode, setStop
 ghost use Rattle.language.specs.Draft.{Draft, going, withItem, withSettings, takeProcess, beginning, takeOmit, take};
 ghost use Rattle.language.specs.Cell.{coded};
 ghost use Rattle.language.specs.Table.{cellFor, headsOf};
-ghost use Rattle.compiler.specs.Cells.{asksOf, countIn, shapeIn};
+ghost use Rattle.work.specs.Cells.{asksOf, countIn, shapeIn};
 ghost use Rattle.compiler.specs.Stands.{Stands, Took, Takes, Nests, Within, Fits, Fronts, Writes, Steps, bytesIn};
-use super::Asks;
-use super::Step;
-use super::Taken;
-use super::Work;
-use super::cells::asks;
-use super::cells::count;
-use super::cells::placed;
 use arguments::Letters;
 use arguments::Line;
 use coder::code;
@@ -31,23 +24,16 @@ use language::OMITS;
 use language::PROCESSES;
 use language::Pool;
 use meaning::Data;
+use work::Asks;
+use work::Step;
+use work::Taken;
+use work::Work;
+use work::cells::asks;
+use work::cells::count;
+use work::cells::placed;
+use work::going;
+use work::stop;
 use writer::put_bytes;
-
-// The lines go on.
-pub(crate) fn going(work: Work) -> Taken
-    ensures { λ r. ⌜ (r .step ≡ Step.Going) × (r .work ≡ work) ⌝ }
-{
-    let step = Step::Going;
-    Taken { step, work }
-}
-
-// A fault ends them.
-pub(crate) fn stop(fault: Fault, row: u32, work: Work) -> Taken
-    ensures { λ r. ⌜ (r .step ≡ Step.Stop fault row) × (r .work ≡ work) ⌝ }
-{
-    let step = Step::Stop(fault, row);
-    Taken { step, work }
-}
 
 // LOOP: its line is noted. "ninth open loop".
 fn opening(row: u32, work: Work) -> Taken
@@ -80,12 +66,9 @@ fn nested(asked: Asks, row: u32, work: Work) -> Taken
     ensures { λ r. ⌜ Nests (shapeIn asked) row work r ⌝ }
 {
     match asked {
-        Asks::Sending(_) => going(work),
-        Asks::Awaiting(_) => going(work),
-        Asks::Logging(_) => going(work),
         Asks::Opening => opening(row, work),
         Asks::Closing => closing(row, work),
-        Asks::Plain => going(work),
+        _ => going(work),
     }
 }
 

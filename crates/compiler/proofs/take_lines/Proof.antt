@@ -6,7 +6,7 @@ use native.Mathlib.Omega.{arith}
 use borrow.Author.Needs.{needs}
 use denote.Ref.{now}
 use lib.ListN.{length, getD}
-use Rattle.compiler.specs.declared.Step.the-variants.{Going}
+use Rattle.work.specs.declared.Step.the-variants.{Going}
 use Rattle.compiler.proofs.Folding.{Folding, Scanning, Lined, first, ready, opened, passed, at-feed, at-end, overlong, in-line, goes-on, refuses, Answered, all-taken, at-fault}
 use Rattle.compiler.proofs.take_lines.Statement.{statement}
 use Rattle.compiler.proofs.take_lines.Tie as tie

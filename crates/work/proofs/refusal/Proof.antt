@@ -2,8 +2,8 @@
 use borrow.Author.Needs.{needs}
 use Rattle.language.specs.Answer.{answered}
 use Rattle.language.specs.Table.{zeros}
-use Rattle.compiler.proofs.refusal.Statement.{statement}
-use Rattle.compiler.proofs.refusal.Tie as tie
+use Rattle.work.proofs.refusal.Statement.{statement}
+use Rattle.work.proofs.refusal.Tie as tie
 
 returns : tie.Need-returns
 unfolding answered zeros

@@ -1,10 +1,10 @@
 -- `asks` meets its contract, cell by cell. Assumes nothing.
 use mathlib.Core.Path.{sym, ap}
-use Rattle.compiler.specs.Cells.{asksOf}
-use Rattle.compiler.proofs.Asking.{other-plain}
+use Rattle.work.specs.Cells.{asksOf}
+use Rattle.work.proofs.Asking.{other-plain}
 use borrow.Author.Needs.{needs}
-use Rattle.compiler.proofs.cells.asks.Statement.{statement}
-use Rattle.compiler.proofs.cells.asks.Tie as tie
+use Rattle.work.proofs.cells.asks.Statement.{statement}
+use Rattle.work.proofs.cells.asks.Tie as tie
 
 enum-known-cell : tie.Need-enum-known-cell
 enum-known-cell c = search needs

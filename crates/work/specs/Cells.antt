@@ -4,8 +4,8 @@ use Rattle.language.specs.declared.Cell.{Cell}
 use Rattle.language.specs.declared.Cell.the-variants.{Nothing, Send, Loop, End, WaitTime, WaitData, WaitByte, WaitClock, WaitSignal, Rts, Log, Fchange, Pause, Resume, Nop, Unknown}
 use Rattle.language.specs.Script.{Shape, opens, closes, stays}
 use Rattle.language.specs.Cell.{span}
-use Rattle.compiler.specs.declared.Asks.{Asks}
-use Rattle.compiler.specs.declared.Asks.the-variants.{Sending, Awaiting, Logging, Opening, Closing, Plain}
+use Rattle.work.specs.declared.Asks.{Asks}
+use Rattle.work.specs.declared.Asks.the-variants.{Sending, Awaiting, Logging, Opening, Closing, Plain}
 
 -- what each cell asks for
 abbrev pub asksOf : Cell → Asks
