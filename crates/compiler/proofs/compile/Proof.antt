@@ -1,7 +1,10 @@
 -- `compile` meets its contract: a text that is too long is refused before any line is taken. Assumes nothing.
-use mathlib.Core.Path.{sym, _∙_}
+use mathlib.Core.Path.{sym, ap, _∙_}
 use borrow.Author.Needs.{needs}
-use Rattle.compiler.proofs.Folding.{too-long}
+use lib.Seq.{take-all}
+use Rattle.language.specs.Answer.{compiled}
+use Rattle.language.specs.Limits.{textLimit}
+use Rattle.compiler.proofs.Long.{too-long}
 use Rattle.compiler.proofs.compile.Statement.{statement}
 use Rattle.compiler.proofs.compile.Tie as tie
 
@@ -11,11 +14,11 @@ refusal-requires c κs = search needs
 returns : tie.Need-returns
 returns c = c .refusal .ensures ∙ sym (too-long _ (c .before .if1 .taken))
 
-take-lines-requires : tie.Need-take-lines-requires
-take-lines-requires c κs = search needs
+take-text-requires : tie.Need-take-text-requires
+take-text-requires c κs = search needs
 
 returns-2 : tie.Need-returns-2
-returns-2 c = search needs
+returns-2 c = c .take-text .ensures ∙ ap compiled (take-all textLimit _ (c .before .if1 .left))
 
 pub compile-spec : {M : Type 1} → statement M
-compile-spec = tie.close (tie.spec refusal-requires returns take-lines-requires returns-2)
+compile-spec = tie.close (tie.spec refusal-requires returns take-text-requires returns-2)

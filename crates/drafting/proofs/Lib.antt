@@ -1,0 +1,12 @@
+pub mod Padding
+pub mod Bodies
+pub mod Standing
+pub mod Nesting
+pub mod Writing
+pub mod Beginning
+pub mod Setting
+pub mod Stepping
+pub mod Texts
+pub mod Lining
+pub mod Ending
+pub mod Folding
