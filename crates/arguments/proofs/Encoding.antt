@@ -8,10 +8,10 @@ use lib.Dec.{eqb}
 use lib.ListN.{length, getD, drop, drop-of-length-le}
 use lib.Seq.{drop-cons}
 use borrow.Author.Tests.{eq-eqb, ne-eqb}
-use Rattle.reader.specs.Number.{moved}
+use Rattle.numbers.specs.Number.{moved}
 use Rattle.hex.specs.Hex.{hexByteAt}
-use Rattle.reader.specs.declared.Number.{Number}
-use Rattle.reader.specs.declared.Number.the-variants.{Value, Bad}
+use Rattle.numbers.specs.declared.Number.{Number}
+use Rattle.numbers.specs.declared.Number.the-variants.{Value, Bad}
 use Rattle.hex.proofs.Moved.{hex-byte-at-moved}
 use Rattle.language.specs.Script.{setEncode, fault}
 use Rattle.language.specs.declared.Fault.the-variants.{BadRest}

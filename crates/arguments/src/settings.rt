@@ -9,7 +9,7 @@ use super::spelling::is_capital;
 use hex::hex_byte;
 use language::Cell;
 use language::Fault;
-use reader::Number;
+use numbers::Number;
 
 // RTS: ON or OFF.
 pub fn rts(argument: &[u8]) -> Line

@@ -9,11 +9,11 @@ use lib.ListN.{length, take, drop, getD, length-drop, drop-of-length-le}
 use lib.Seq.{drop-cons, drop-drop}
 use borrow.Author.Tests.{leb-true, eq-eqb, ne-eqb}
 use Rattle.reader.specs.Bytes.{same}
-use Rattle.reader.specs.Number.{pairAt, moved}
+use Rattle.numbers.specs.Number.{pairAt, moved}
 use Rattle.hex.specs.Hex.{Said, before, good, bad}
-use Rattle.reader.specs.declared.Number.{Number}
-use Rattle.reader.specs.declared.Number.the-variants.{Value, Bad}
-use Rattle.reader.proofs.Moved.{pair-at-moved}
+use Rattle.numbers.specs.declared.Number.{Number}
+use Rattle.numbers.specs.declared.Number.the-variants.{Value, Bad}
+use Rattle.numbers.proofs.Moved.{pair-at-moved}
 use Rattle.reader.proofs.Tests.{both-right, by-cases}
 use Rattle.language.specs.declared.Fault.the-variants.{BadRest}
 use Rattle.language.specs.declared.Clock.{Clock}

@@ -2,10 +2,10 @@
 use Prim.Native.Nat.{ℕ}
 use mathlib.Core.List.{List, [], _∷_}
 use lib.ListN.{getD}
-use Rattle.reader.specs.Number.{pairAt, moved}
+use Rattle.numbers.specs.Number.{pairAt, moved}
 use Rattle.hex.specs.Hex.{Said, good, bad}
-use Rattle.reader.specs.declared.Number.{Number}
-use Rattle.reader.specs.declared.Number.the-variants as Number
+use Rattle.numbers.specs.declared.Number.{Number}
+use Rattle.numbers.specs.declared.Number.the-variants as Number
 use Rattle.language.specs.declared.Clock.{Clock}
 use Rattle.language.specs.declared.Cell.the-variants.{WaitClock}
 use Rattle.language.specs.declared.Fault.the-variants.{BadRest}

@@ -11,8 +11,8 @@ use arguments::Line;
 use language::Cell;
 use language::Clock;
 use language::Fault;
-use reader::Number;
-use reader::numbers::pair;
+use numbers::Number;
+use numbers::decimal::pair;
 
 // A value of a clock's unit, or the place of the first byte that cannot be taken.
 enum UnitValue {

@@ -1,7 +1,7 @@
 // A text, as a line spells it: `\n` is LF, `\r` CR, and `\` with any other byte that byte; `\512n` is 512 of them.
 ghost use Prim.Native.Nat.{_≤_};
-use reader::Number;
-use reader::numbers::number;
+use numbers::Number;
+use numbers::decimal::number;
 
 // The place of a byte from a place on, or the end.
 pub(crate) fn place_of(line: &[u8], from: usize, byte: u8) -> usize

@@ -2,19 +2,11 @@
 use mathlib.Core.Path.{_≡_, refl, ap, sym, _∙_}
 use mathlib.Core.Bool.{Bool, true, false, cond}
 use Prim.Native.Nat.{ℕ, _+_, max}
-use native.Mathlib.Omega.{arith}
 use Rattle.figures.specs.declared.Figures.{Figures}
-use Rattle.figures.specs.Figures.{fig, cap, capped, join, joined}
+use Rattle.figures.specs.Figures.{fig, capped, join, joined}
+use Rattle.runs.specs.Cap.{cap}
+use Rattle.runs.proofs.Cap.{cap-cap, cap-add, cap-max}
 use Rattle.figures.proofs.Associative.{fig-path, join-assoc}
-
-pub cap-cap : (a : ℕ) → cap (cap a) ≡ cap a
-cap-cap a = omega arith
-
-pub cap-add : (a b : ℕ) → cap (cap a + cap b) ≡ cap (a + b)
-cap-add a b = omega arith
-
-pub cap-max : (a b : ℕ) → cap (max a b) ≡ max (cap a) (cap b)
-cap-max a b = omega arith
 
 pub capped-capped : (a : Figures) → capped (capped a) ≡ capped a
 unfolding capped

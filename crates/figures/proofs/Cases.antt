@@ -6,7 +6,7 @@ use native.Mathlib.Omega.{arith}
 use lib.Dec.{T, eqb, eqb→eq, leb}
 use borrow.Author.Tests.{leb-true, leb-false}
 use Rattle.figures.specs.Flat.{fragment, fragments, before}
-use Rattle.figures.specs.Stretch.{limit}
+use Rattle.runs.specs.Cap.{limit}
 use Rattle.figures.specs.Figures.{capped, join, again, looped, figures, stretchOf}
 use Rattle.figures.specs.Cases.{Case, cases, Holds, AllHold}
 use Rattle.figures.proofs.Stretches.{stretch-is, over-is}

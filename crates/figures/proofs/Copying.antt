@@ -1,14 +1,16 @@
 -- Copies end to end: the closed form is the iterated join. Assumes nothing.
 use mathlib.Core.Path.{_≡_, refl, ap, sym, _∙_}
 use mathlib.Core.Bool.{Bool, true, false}
-use Prim.Native.Nat.{ℕ, zero, suc, _*_, max, _≤_}
+use Prim.Native.Nat.{ℕ, zero, suc, max, _≤_}
 use native.Mathlib.Omega.{arith}
 use borrow.Author.Tests.{ne-eqb}
 use Rattle.figures.specs.declared.Figures.{Figures}
-use Rattle.figures.specs.Stretch.{over}
-use Rattle.figures.specs.Figures.{fig, cap, capped, join, joined, empty, again, copies}
+use Rattle.runs.specs.Cap.{over}
+use Rattle.figures.specs.Figures.{fig, capped, join, joined, empty, again, copies}
+use Rattle.runs.specs.Cap.{cap}
 use Rattle.figures.proofs.Associative.{fig-path}
-use Rattle.figures.proofs.Capping.{joined-capped-left, joined-capped-right, cap-max}
+use Rattle.figures.proofs.Capping.{joined-capped-left, joined-capped-right}
+use Rattle.runs.proofs.Cap.{cap-max, many-product}
 
 -- n copies, joined one by one
 unfoldable pub power : ℕ → Figures → Figures
@@ -42,10 +44,6 @@ pub copies-capped : (n : ℕ) (a : Figures) → copies n (capped a) ≡ copies n
 copies-capped n a = rw (again-power n (capped a), again-power n a) (power-capped n a)
 
 -- 4,097 copies show all that any greater number of them shows
-pub many-product : (m f : ℕ) → over ≤ m → cap (m * f) ≡ cap (over * f)
-many-product m zero h = omega arith
-many-product m (suc f) h = omega arith
-
 many-parts : (n : ℕ) → over ≤ suc n → (ae ar : Bool) (f l g : ℕ) → copies (suc n) (fig ar ae f l g) ≡ copies over (fig ar ae f l g)
 unfolding capped again
 many-parts n h false ar f l g = refl

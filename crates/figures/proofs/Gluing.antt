@@ -6,7 +6,7 @@ use native.Mathlib.Omega.{arith}
 use Rattle.figures.specs.declared.Figures.{Figures}
 use Rattle.figures.specs.Fragment.{Fragment, stop, other, rest, loop, glue}
 use Rattle.figures.specs.Written.{busy, repeated, written}
-use Rattle.figures.specs.Stretch.{over}
+use Rattle.runs.specs.Cap.{over}
 use Rattle.figures.specs.Figures.{told, capped, join, joined, empty, one, never, copies, looped, figures}
 use Rattle.figures.proofs.Capping.{joined-capped-left, joined-assoc}
 use Rattle.figures.proofs.Telling.{told-right}

@@ -1,4 +1,3 @@
-pub mod Calls
 pub mod Associative
 pub mod Capping
 pub mod Copying

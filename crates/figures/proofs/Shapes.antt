@@ -1,17 +1,14 @@
 -- What the code's tests decide of a join, of copies and of the passes of a loop. Assumes nothing.
-use mathlib.Core.Path.{_≡_, refl, ap, sym, _∙_}
+use mathlib.Core.Path.{_≡_, refl}
 use mathlib.Core.Bool.{Bool, true, false, cond, _||_}
 use Prim.Native.Nat.{ℕ, zero, suc, _+_, _*_, max}
-use native.Mathlib.Nat.{mul-comm}
-use native.Mathlib.Decide.{decLe}
-use native.Mathlib.Omega.{arith}
 use lib.Dec.{eqb}
 use Rattle.figures.specs.declared.Figures.{Figures}
-use Rattle.figures.specs.Stretch.{over}
-use Rattle.figures.specs.Figures.{fig, cap, capped, join, joined, one, never, empty, lastOf, again, copies, looped}
+use Rattle.runs.specs.Cap.{over}
+use Rattle.figures.specs.Figures.{fig, capped, join, joined, one, never, empty, lastOf, again, copies, looped}
+use Rattle.runs.specs.Cap.{cap}
 use Rattle.figures.proofs.Associative.{fig-path}
-use Rattle.figures.proofs.Capping.{cap-max}
-use Rattle.figures.proofs.Copying.{many-product}
+use Rattle.runs.proofs.Cap.{cap-max}
 
 cap-cond : (t : Bool) (x y : ℕ) → cap (cond t x y) ≡ cond t (cap x) (cap y)
 cap-cond true x y = refl
@@ -51,16 +48,6 @@ pub copies-never : (n : ℕ) (a : Figures) → (n ≡ 0 → ⊥) → a .ends ≡
 unfolding again
 copies-never zero a z h = absurd (z refl)
 copies-never (suc n) a z h = rw h refl
-
--- a product's factors may be capped first
-factor : (n x : ℕ) → cap (cap n * x) ≡ cap (n * x)
-factor n x = elim (decLe n over) [
-  | yes h ↦ (let e : cap n ≡ n = omega arith in ap (λ (k : ℕ). cap (k * x)) e)
-  | no h ↦ (let e : cap n ≡ over = omega arith in ap (λ (k : ℕ). cap (k * x)) e ∙ sym (many-product n x (omega arith)))
-]
-
-pub cap-product : (n x : ℕ) → cap (cap n * cap x) ≡ cap (n * x)
-cap-product n x = factor n (cap x) ∙ ap cap (mul-comm n (cap x)) ∙ factor x n ∙ ap cap (mul-comm x n)
 
 pub looped-ever : (n : ℕ) (b : Figures) → n ≡ 0 → looped n b ≡ joined (copies over (joined b one)) never
 unfolding looped

@@ -6,8 +6,11 @@ use native.Mathlib.Omega.{arith}
 use Rattle.figures.specs.declared.Figures.{Figures}
 use Rattle.figures.specs.Fragment.{Fragment}
 use Rattle.figures.specs.Written.{written, longest}
-use Rattle.figures.specs.Stretch.{limit, over, Stretch, Over}
-use Rattle.figures.specs.Figures.{cap, capped, stretchOf}
+use Rattle.runs.specs.Cap.{limit, over}
+use Rattle.figures.specs.Stretch.{Stretch, Over}
+use Rattle.runs.specs.Cap.{cap}
+use Rattle.figures.specs.Figures.{capped, stretchOf}
+use Rattle.runs.proofs.Cap.{cap-within}
 use Rattle.figures.proofs.Writing.{figures-written}
 use Rattle.figures.proofs.Growing.{longest-grows}
 
@@ -19,9 +22,9 @@ module _ (p : Fragment) where
   -- what the figures say is so
   pub stretch-is : stretchOf p ≤ limit → Stretch p (stretchOf p)
   stretch-is h = record {
-    most = λ m. omega (arith, longest-grows m (max m over) (le-max-left m over) p, stretch-written (max m over) (le-max-right m over));
+    most = λ m. omega (arith, longest-grows m (max m over) (le-max-left m over) p, cap-within (longest (written (max m over) p)) (stretch-written (max m over) (le-max-right m over)) h);
     enough = over;
-    reached = λ m e. omega (arith, stretch-written m e);
+    reached = λ m e. cap-within (longest (written m p)) (stretch-written m e) h;
   }
 
   pub over-is : limit < stretchOf p → Over p limit

@@ -5,7 +5,7 @@ use Prim.Native.Nat.{ℕ, zero, suc, _≤_}
 use native.Mathlib.Nat.{le-refl}
 use Rattle.figures.specs.Fragment.{Fragment, stop, other, rest, loop}
 use Rattle.figures.specs.Written.{Done, busy, sure, cut, times, repeated, written}
-use Rattle.figures.specs.Stretch.{over}
+use Rattle.runs.specs.Cap.{over}
 use Rattle.figures.specs.Figures.{told, capped, joined, one, oneRest, never, copies, looped, figures}
 use Rattle.figures.proofs.Capping.{capped-capped, joined-capped}
 use Rattle.figures.proofs.Copying.{again-power, copies-capped, copies-many}

@@ -1,12 +1,12 @@
 -- Figures of a fragment: what is to be known of it to join it to others. Assumes nothing: these are definitions.
 use mathlib.Core.Bool.{Bool, true, false, cond, _||_}
 use mathlib.Core.List.{List}
-use Prim.Native.Nat.{ℕ, zero, suc, _+_, _*_, max, min}
+use Prim.Native.Nat.{ℕ, zero, suc, _+_, _*_, max}
 use lib.Dec.{eqb}
 use Rattle.figures.specs.declared.Figures.{Figures}
 use Rattle.figures.specs.Fragment.{Fragment, stop, other, rest, loop}
 use Rattle.figures.specs.Written.{Done, longest, firstRun, lastRun, rested, ended}
-use Rattle.figures.specs.Stretch.{over}
+use Rattle.runs.specs.Cap.{over, cap}
 
 -- the record of a fragment's figures, part by part
 abbrev pub fig : Bool → Bool → ℕ → ℕ → ℕ → Figures
@@ -46,10 +46,6 @@ meld a b = fig (a .rests || b .rests) (b .ends)
 -- "a forever loop .., after which nothing counts"
 unfoldable pub join : Figures → Figures → Figures
 join a b = cond (a .ends) (meld a b) a
-
--- "capped at 4,097"
-abbrev pub cap : ℕ → ℕ
-cap n = min n over
 
 -- the figures with each of their runs capped
 unfoldable pub capped : Figures → Figures

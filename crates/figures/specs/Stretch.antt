@@ -1,16 +1,8 @@
 -- What the stretch of a fragment is. Assumes nothing: these are definitions.
 use mathlib.Core.Path.{_≡_}
-use Prim.Native.Nat.{ℕ, suc, _≤_, _<_}
+use Prim.Native.Nat.{ℕ, _≤_, _<_}
 use Rattle.figures.specs.Fragment.{Fragment}
 use Rattle.figures.specs.Written.{written, longest}
-
--- "it may be 4,096"
-abbrev pub limit : ℕ
-limit = 4096
-
--- "capped at 4,097", which stands for every number over 4,096
-abbrev pub over : ℕ
-over = suc limit
 
 -- "The longest run .. is the stretch": no writing out has a longer run than k, and from some m on each has one of k
 pub record Stretch (p : Fragment) (k : ℕ) : Type 0 where

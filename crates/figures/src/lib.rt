@@ -1,19 +1,13 @@
 // Figures of a fragment of a script: what is to be known of it to join it to others, each run capped at 4,097.
-mod runs;
-
 ghost use mathlib.Core.Path.{_≡_};
 ghost use Rattle.figures.specs.Figures.{capped, joined, one, oneRest, empty, never, copies, looped};
+use runs::OVER;
 use runs::choose;
 use runs::either;
 use runs::held;
 use runs::larger;
 use runs::meet;
 use runs::product;
-
-/// The longest stretch that a process may have.
-pub const LIMIT: u32 = 4096;
-// What stands for every run over the limit.
-const OVER: u32 = LIMIT + 1;
 
 /// Whether a fragment rests, whether it ever ends, and its first, last and longest runs.
 pub struct Figures {

@@ -7,8 +7,8 @@ use native.Mathlib.Omega.{arith}
 use lib.Dec.{ltb}
 use lib.ListN.{length}
 use Rattle.reader.specs.Bytes.{digitOf}
-use Rattle.reader.specs.declared.Number.the-variants.{Value, Bad}
-use Rattle.reader.proofs.Final.{kept, same}
+use Rattle.numbers.specs.declared.Number.the-variants.{Value, Bad}
+use Rattle.numbers.proofs.Final.{kept, same}
 use Rattle.hex.specs.Hex.{Said, good, bad, stepOf, before, after, hexGo, hexSecond, hexByteOf}
 use Rattle.hex.specs.declared.HexStep.{HexStep}
 use Rattle.hex.specs.declared.HexStep.the-variants.{Refuse, Skip, First, Whole}

@@ -5,9 +5,9 @@ use mathlib.Core.List.{List, [], _∷_}
 use lib.Dec.{ltb}
 use lib.ListN.{drop}
 use Rattle.reader.specs.Bytes.{digitOf}
-use Rattle.reader.specs.Number.{moved}
-use Rattle.reader.specs.declared.Number.the-variants.{Value}
-use Rattle.reader.proofs.Moved.{both-moved, next, from-zero}
+use Rattle.numbers.specs.Number.{moved}
+use Rattle.numbers.specs.declared.Number.the-variants.{Value}
+use Rattle.numbers.proofs.Moved.{both-moved, next, from-zero}
 use Rattle.hex.specs.Hex.{Said, good, bad, stepOf, before, after, hexGo, hexAt, movedSaid, hexSecond, hexByteOf, hexByteAt}
 use Rattle.hex.specs.declared.HexStep.{HexStep}
 use Rattle.hex.specs.declared.HexStep.the-variants.{Refuse, Skip, First, Whole}

@@ -9,7 +9,7 @@ use lib.ListN.{length, drop, getD, drop-of-length-le}
 use lib.Seq.{drop-cons}
 use borrow.Author.Tests.{lt-ltb}
 use Rattle.reader.specs.Bytes.{digitOf}
-use Rattle.reader.specs.declared.Number.the-variants.{Value, Bad}
+use Rattle.numbers.specs.declared.Number.the-variants.{Value, Bad}
 use Rattle.hex.specs.Hex.{hexSecond, hexByteOf, hexByteAt}
 
 module _ (s : List ℕ) (at : ℕ) (outside : length s ≤ at) where

@@ -4,7 +4,7 @@ ghost use mathlib.Core.Path.{_≡_};
 ghost use lib.ListN.{length};
 ghost use lib.Seq.{sets};
 ghost use Rattle.hex.specs.Hex.{good, stepOf, hexAt, counted, bytesOf, hexInto, hexPut, hexByteAt};
-use reader::Number;
+use numbers::Number;
 use reader::bytes::blank;
 use reader::bytes::digit;
 use reader::has_room;

@@ -6,7 +6,7 @@ use mathlib.Core.List.{List, [], _∷_, append-nil}
 use native.Mathlib.Omega.{arith}
 use lib.Dec.{leb}
 use lib.ListN.{length, length-append}
-use Rattle.figures.specs.Stretch.{limit}
+use Rattle.runs.specs.Cap.{limit}
 use Rattle.reader.specs.Bytes.{all}
 use Rattle.reader.proofs.Tests.{both, by-cases}
 use Rattle.language.specs.declared.Fault.the-variants.{TextTooLong, StretchTooLong}

@@ -13,11 +13,11 @@ use borrow.Author.Tests.{leb-true, eqb-true, ne-eqb, eq-eqb}
 use Rattle.reader.specs.Ascii.{ascii}
 use Rattle.reader.specs.Bytes.{digitOf, isBlank, all, same}
 use Rattle.words.specs.Words.{skip, beforeEnd, trimEnd, argument, wordOf, afterWord}
-use Rattle.reader.specs.Number.{numberAt}
+use Rattle.numbers.specs.Number.{numberAt}
 use Rattle.hex.specs.Hex.{good, hexAt}
 use Rattle.writer.specs.Hex.{hexText}
 use Rattle.writer.specs.Put.{widthOf, decimal}
-use Rattle.reader.specs.declared.Number.the-variants.{Value}
+use Rattle.numbers.specs.declared.Number.the-variants.{Value}
 use Rattle.reader.proofs.Tests.{both-left, both-right, true-is-false, Every}
 use Rattle.reader.proofs.Solid.{solid-append}
 use Rattle.words.proofs.Solid.{argument-solid}

@@ -8,7 +8,7 @@ use lib.Dec.{leb}
 use lib.ListN.{length}
 use borrow.Author.Tests.{leb-true}
 use Rattle.reader.specs.Bytes.{same}
-use Rattle.reader.specs.Number.{pairAt}
+use Rattle.numbers.specs.Number.{pairAt}
 use Rattle.hex.specs.Hex.{good, before}
 use Rattle.writer.specs.Put.{twoDigits}
 use Rattle.reader.proofs.Tests.{both-left, both-right, true-is-false, Every}

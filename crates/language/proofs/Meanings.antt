@@ -11,10 +11,10 @@ use borrow.Author.Tests.{leb-true, lt-ltb, le-leb, eq-eqb}
 use Rattle.reader.specs.Ascii.{ascii}
 use Rattle.reader.specs.Bytes.{isBlank, all, same}
 use Rattle.words.specs.Words.{skip, argument, wordOf, afterWord}
-use Rattle.reader.specs.Number.{numberAt}
+use Rattle.numbers.specs.Number.{numberAt}
 use Rattle.hex.specs.Hex.{Said, hexAt, hexByteAt, good, bad}
-use Rattle.reader.specs.declared.Number.{Number}
-use Rattle.reader.specs.declared.Number.the-variants.{Value, Bad}
+use Rattle.numbers.specs.declared.Number.{Number}
+use Rattle.numbers.specs.declared.Number.the-variants.{Value, Bad}
 use Rattle.reader.proofs.Tests.{both-left, both-right, by-cases}
 use Rattle.reader.proofs.Same.{same-is}
 use Rattle.language.specs.declared.Fault.{Fault}

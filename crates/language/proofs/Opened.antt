@@ -3,7 +3,7 @@ use mathlib.Core.List.{List, []}
 use Prim.Native.Nat.{ℕ}
 use Rattle.reader.specs.Bytes.{isBlank, digitOf, same}
 use Rattle.words.specs.Words.{skip, wordOf, afterWord, beforeEnd, trimEnd, argument}
-use Rattle.reader.specs.Number.{ended, numberGo, numberAt, secondOf, pairOf, pairAt}
+use Rattle.numbers.specs.Number.{ended, numberGo, numberAt, secondOf, pairOf, pairAt}
 use Rattle.hex.specs.Hex as hex
 use Rattle.hex.specs.Hex.{stepOf, hexGo, hexAt, hexSecond, hexByteOf, hexByteAt}
 use Rattle.writer.specs.Hex.{capital, hexText}

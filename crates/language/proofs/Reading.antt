@@ -9,10 +9,10 @@ use lib.Dec.{ltb, leb, eqb}
 use lib.ListN.{length, drop}
 use borrow.Author.Tests.{ltb-true, lt-ltb, leb-true}
 use Rattle.reader.specs.Bytes.{digitOf, isBlank, all, same}
-use Rattle.reader.specs.Number.{ended, numberGo, numberAt, secondOf, pairOf, pairAt}
+use Rattle.numbers.specs.Number.{ended, numberGo, numberAt, secondOf, pairOf, pairAt}
 use Rattle.hex.specs.Hex.{Said, before, stepOf, after, hexGo, hexAt, hexSecond, hexByteOf, hexByteAt, good, bad}
-use Rattle.reader.specs.declared.Number.{Number}
-use Rattle.reader.specs.declared.Number.the-variants.{Value, Bad}
+use Rattle.numbers.specs.declared.Number.{Number}
+use Rattle.numbers.specs.declared.Number.the-variants.{Value, Bad}
 use Rattle.hex.specs.declared.HexStep.{HexStep}
 use Rattle.hex.specs.declared.HexStep.the-variants.{Refuse, Skip, First, Whole}
 use Rattle.reader.proofs.Tests.{both, both-right, by-cases}

@@ -7,7 +7,7 @@ use native.Mathlib.Omega.{arith}
 use lib.Dec.{leb}
 use lib.ListN.{length}
 use borrow.Author.Tests.{le-leb}
-use Rattle.figures.specs.Stretch.{limit}
+use Rattle.runs.specs.Cap.{limit}
 use Rattle.reader.specs.Ascii.{ascii}
 use Rattle.reader.specs.Bytes.{all, same}
 use Rattle.writer.specs.Hex.{hexText}

@@ -6,11 +6,11 @@ use mathlib.Core.List.{List, [], _∷_, _++_}
 use lib.ListN.{drop}
 use lib.Dec.{leb, eqb}
 use Rattle.reader.specs.Bytes.{same}
-use Rattle.reader.specs.Number.{pairAt}
+use Rattle.numbers.specs.Number.{pairAt}
 use Rattle.hex.specs.Hex.{Said, before, good, bad}
 use Rattle.writer.specs.Put.{twoDigits}
-use Rattle.reader.specs.declared.Number.{Number}
-use Rattle.reader.specs.declared.Number.the-variants.{Value, Bad}
+use Rattle.numbers.specs.declared.Number.{Number}
+use Rattle.numbers.specs.declared.Number.the-variants.{Value, Bad}
 
 -- the range of a unit
 pub record Range : Type 0 where

@@ -5,7 +5,7 @@ use mathlib.Core.Bool.{Bool, true, false, cond}
 use mathlib.Core.List.{List, [], _∷_, _++_}
 use lib.ListN.{length}
 use lib.Dec.{ltb, leb}
-use Rattle.figures.specs.Stretch.{limit}
+use Rattle.runs.specs.Cap.{limit}
 use Rattle.language.specs.declared.Fault.{Fault}
 use Rattle.language.specs.declared.Fault.the-variants.{TextTooLong, LineTooLong, TooManyLines, TooMuchData, TooManyOmits, TooManyLoops, EndWithoutLoop, LoopLeftOpen, TooManyProcesses, StretchTooLong}
 use Rattle.language.specs.Limits.{textLimit, lineLimit, linesLimit, dataLimit, omitLimit, loopLimit, processLimit}

@@ -8,10 +8,10 @@ use lib.Dec.{ltb, leb, eqb}
 use Rattle.reader.specs.Ascii.{ascii}
 use Rattle.reader.specs.Bytes.{isBlank, all, same}
 use Rattle.words.specs.Words.{skip, argument, wordOf, afterWord}
-use Rattle.reader.specs.Number.{numberAt}
+use Rattle.numbers.specs.Number.{numberAt}
 use Rattle.hex.specs.Hex.{Said, hexAt, hexByteAt, good, bad}
-use Rattle.reader.specs.declared.Number.{Number}
-use Rattle.reader.specs.declared.Number.the-variants.{Value, Bad}
+use Rattle.numbers.specs.declared.Number.{Number}
+use Rattle.numbers.specs.declared.Number.the-variants.{Value, Bad}
 use Rattle.language.specs.declared.Fault.the-variants.{NoSuchName, BadRest}
 use Rattle.language.specs.Clock.{clockOf}
 use Rattle.language.specs.Script.{Statement, send, loop, end, waitTime, waitData, waitByte, waitClock, waitSignal, rts, log, fchange, pause, resume, nop, Meaning, comment, blank, process, setEx, says, setEncode, setStopbits, setOmit, setLfext, fault}

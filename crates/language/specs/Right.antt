@@ -4,7 +4,7 @@ use mathlib.Core.Bool.{Bool, true, false, _&&_, _||_, not}
 use mathlib.Core.List.{List, [], _∷_}
 use lib.ListN.{length}
 use lib.Dec.{ltb, leb, eqb}
-use Rattle.figures.specs.Stretch.{limit}
+use Rattle.runs.specs.Cap.{limit}
 use Rattle.reader.specs.Bytes.{all, same}
 use Rattle.language.specs.Limits.{linesLimit, dataLimit, omitLimit, loopLimit, processLimit, sendRoom, waitRoom, logRoom, omitRoom}
 use Rattle.language.specs.Clock.{Range, within, secondOn, minuteOn, hourOn, dayOn}

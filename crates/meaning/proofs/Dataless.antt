@@ -7,10 +7,10 @@ use lib.Dec.{leb, eqb}
 use lib.ListN.{length, drop}
 use Rattle.reader.specs.Ascii.{ascii}
 use Rattle.reader.specs.Bytes.{isBlank, all, same}
-use Rattle.reader.specs.Number.{numberAt}
+use Rattle.numbers.specs.Number.{numberAt}
 use Rattle.hex.specs.Hex.{Said, hexByteAt, good, bad}
-use Rattle.reader.specs.declared.Number.{Number}
-use Rattle.reader.specs.declared.Number.the-variants.{Value, Bad}
+use Rattle.numbers.specs.declared.Number.{Number}
+use Rattle.numbers.specs.declared.Number.the-variants.{Value, Bad}
 use Rattle.reader.proofs.Tests.{by-cases}
 use Rattle.language.specs.declared.Fault.the-variants.{BadRest}
 use Rattle.language.specs.Script.{Statement, loop, waitTime, waitByte, dataOf, Meaning, setEx, says, setEncode, setLfext, fault}

@@ -14,7 +14,7 @@ use Rattle.reader.proofs.Tests.{both-left, both-right, both, true-is-false}
 use Rattle.figures.specs.Flat.{fragments, nests}
 use Rattle.figures.specs.Scan.{fragmentAt}
 use Rattle.figures.specs.Written.{written, run, longest}
-use Rattle.figures.specs.Stretch.{limit}
+use Rattle.runs.specs.Cap.{limit}
 use Rattle.language.specs.declared.Heads.{Heads}
 use Rattle.language.specs.declared.Table.{Table}
 use Rattle.language.specs.declared.Answer.{Answer}

@@ -8,7 +8,7 @@ use Prim.Native.Nat.{ℕ, suc, _+_, _≤_, _<_}
 use lib.ListN.{length, getD, drop}
 use lib.Dec.{eqb, ltb}
 use Rattle.figures.specs.Flat.{Mark, nests}
-use Rattle.figures.specs.Stretch.{over}
+use Rattle.runs.specs.Cap.{over}
 use Rattle.language.specs.declared.Heads.{Heads}
 use Rattle.language.specs.declared.Table.{Table}
 use Rattle.language.specs.Limits.{loopLimit, processLimit}

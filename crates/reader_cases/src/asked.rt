@@ -1,8 +1,8 @@
 // What a line asks: its name, the text that it has in brackets, and the numbers behind that.
 ghost use Prim.Native.Nat.{_≤_};
-use reader::Number;
+use numbers::Number;
+use numbers::decimal::number;
 use reader::bytes::digit;
-use reader::numbers::number;
 use words::is_named;
 use words::word_end;
 

@@ -7,9 +7,9 @@ use super::shows;
 use super::tell;
 use hex::HexCount;
 use hex::HexRead;
-use reader::Number;
+use numbers::Number;
+use numbers::decimal;
 use reader::bytes;
-use reader::numbers;
 
 fn wide(n: u32) -> usize {
     n as usize
@@ -78,10 +78,10 @@ fn data(text: &[u8], at: usize, to: usize) {
 
 fn number(line: &[u8], text: &[u8], at: usize, b: usize, c: usize) -> Number {
     if starts(line, b"number") {
-        return numbers::number(text, at, b, narrow(c));
+        return decimal::number(text, at, b, narrow(c));
     }
     if starts(line, b"pair") {
-        return numbers::pair(text, at, small(b), small(c));
+        return decimal::pair(text, at, small(b), small(c));
     }
     hex::hex_byte(text, at)
 }

@@ -11,7 +11,7 @@ use lib.Seq.{drop-cons, getD-take, take-all}
 use borrow.Author.Tests.{le-leb, lt-leb}
 use Rattle.figures.specs.declared.Figures.{Figures}
 use Rattle.figures.specs.Flat.{Mark, deepest, nests}
-use Rattle.figures.specs.Stretch.{limit}
+use Rattle.runs.specs.Cap.{limit}
 use Rattle.figures.specs.Figures.{figures}
 use Rattle.figures.specs.Scan.{fragmentAt, Scanned}
 use Rattle.figures.proofs.Scanning.{nests-scannable}

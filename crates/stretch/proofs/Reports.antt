@@ -15,7 +15,7 @@ use borrow.Author.Tests.{leb-true, leb-false}
 use Rattle.reader.proofs.Tests.{by-cases}
 use Rattle.figures.specs.Flat.{Mark, fragment, nests}
 use Rattle.figures.specs.Stretch as figures
-use Rattle.figures.specs.Stretch.{limit}
+use Rattle.runs.specs.Cap.{limit}
 use Rattle.figures.proofs.Stretches.{stretch-is, over-is, one-stretch, over-less}
 use Rattle.language.specs.declared.Heads.{Heads}
 use Rattle.stretch.specs.declared.Measured.{Measured}

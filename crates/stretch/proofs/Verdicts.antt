@@ -9,7 +9,7 @@ use lib.ListN.{length, take, replicate}
 use lib.Seq.{take-at}
 use Rattle.reader.proofs.Tests.{both-left, both-right, by-cases}
 use Rattle.figures.specs.Flat as flat
-use Rattle.figures.specs.Stretch.{limit}
+use Rattle.runs.specs.Cap.{limit}
 use Rattle.language.specs.declared.Fault.the-variants.{StretchTooLong}
 use Rattle.language.specs.declared.Table.{Table}
 use Rattle.language.specs.Limits.{dataLimit, processLimit}

@@ -4,7 +4,7 @@ use mathlib.Core.List.{List, [], _∷_}
 use Prim.Native.Nat.{ℕ, _+_, max}
 use lib.Dec.{leb}
 use Rattle.figures.specs.Flat.{Mark, fragment, nests}
-use Rattle.figures.specs.Stretch.{limit}
+use Rattle.runs.specs.Cap.{limit}
 use Rattle.figures.specs.Figures.{stretchOf}
 use Rattle.language.specs.declared.Heads.{Heads}
 use Rattle.stretch.specs.declared.Alone.{Alone}

@@ -8,7 +8,8 @@ use Prim.Native.Nat.{ℕ, _+_, _≤_, _<_}
 use lib.ListN.{length, getD}
 use Rattle.figures.specs.Flat.{Mark, fragment, nests}
 use Rattle.figures.specs.Stretch as figures
-use Rattle.figures.specs.Stretch.{limit, Stretch}
+use Rattle.runs.specs.Cap.{limit}
+use Rattle.figures.specs.Stretch.{Stretch}
 use Rattle.language.specs.declared.Heads.{Heads}
 use Rattle.stretch.specs.declared.Measured.{Measured}
 use Rattle.stretch.specs.declared.Measured.the-variants.{Largest, Over, Broken}

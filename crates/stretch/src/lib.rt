@@ -1,11 +1,11 @@
 // The stretch of each process, read off a table's cells.
 use coder::cell_at;
 use figures::Figures;
-use figures::LIMIT;
 use language::Cell;
 use language::Cells;
 use language::Heads;
 use language::LOOPS;
+use runs::LIMIT;
 ghost use mathlib.Core.Path.{_≡_};
 ghost use mathlib.Core.Bool.{cond};
 ghost use Prim.Native.Nat.{_≤_, max, min};

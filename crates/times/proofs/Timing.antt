@@ -9,9 +9,9 @@ use lib.ListN.{length, take, drop}
 use borrow.Author.Tests.{le-leb, lt-leb, eq-eqb, ne-eqb}
 use Rattle.reader.specs.Ascii.{ascii}
 use Rattle.reader.specs.Bytes.{digitOf, same}
-use Rattle.reader.specs.Number.{ended, numberGo, numberAt}
-use Rattle.reader.specs.declared.Number.{Number}
-use Rattle.reader.specs.declared.Number.the-variants.{Value, Bad}
+use Rattle.numbers.specs.Number.{ended, numberGo, numberAt}
+use Rattle.numbers.specs.declared.Number.{Number}
+use Rattle.numbers.specs.declared.Number.the-variants.{Value, Bad}
 use Rattle.reader.proofs.Tests.{by-cases}
 use Rattle.reader.proofs.Same.{same-is}
 use Rattle.language.specs.declared.Fault.the-variants.{BadRest}

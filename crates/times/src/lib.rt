@@ -1,7 +1,7 @@
 // LOOP, WAIT BYTE and WAIT TIME: a number, with a unit for a time.
 ghost use Prim.Native.Nat.{_≤_};
 ghost use mathlib.Core.Path.{_≡_};
-ghost use Rattle.reader.specs.Number.{numberAt};
+ghost use Rattle.numbers.specs.Number.{numberAt};
 ghost use Rattle.language.specs.Meaning.{loopOf, byteOf, timeIn, timeOf};
 ghost use Rattle.arguments.specs.Shown.{shown};
 ghost use Rattle.times.specs.Parts.{whole};
@@ -9,8 +9,8 @@ use arguments::Line;
 use arguments::parts::is_name;
 use language::Cell;
 use language::Fault;
-use reader::Number;
-use reader::numbers::number;
+use numbers::Number;
+use numbers::decimal::number;
 
 // "0 to 60000": the largest number of a line.
 const MOST: u32 = 60000;

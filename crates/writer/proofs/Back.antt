@@ -6,9 +6,9 @@ use native.Mathlib.Nat.{pow-suc, mod-lt, mul-comm, mul-assoc, add-mul, div-add-m
 use native.Mathlib.Omega.{arith}
 use borrow.Author.Tests.{lt-ltb, le-ltb, le-leb}
 use Rattle.reader.specs.Bytes.{digitOf}
-use Rattle.reader.specs.Number.{ended, numberGo, secondOf, pairOf}
+use Rattle.numbers.specs.Number.{ended, numberGo, secondOf, pairOf}
 use Rattle.writer.specs.Put.{fixed, widthOf, decimal, twoDigits}
-use Rattle.reader.specs.declared.Number.the-variants.{Value}
+use Rattle.numbers.specs.declared.Number.the-variants.{Value}
 use Rattle.reader.proofs.Digits.{digit-is}
 use Rattle.writer.proofs.Decimals.{ten-pos, first-digit, fits-width, decimal-length, decimal-some}
 

@@ -9,7 +9,7 @@ use borrow.Fn.Kinds.{In}
 use borrow.Fn.PlainCycle.{Measures, is, falls, and}
 use Rattle.figures.specs.Flat.{opens}
 use Rattle.figures.specs.Scan.{Stands}
-use Rattle.figures.proofs.Calls.{free}
+use Rattle.runs.proofs.Calls.{free}
 use Rattle.figures.proofs.Scanning.{Going, scan-starts, scan-past, scan-closes, scan-plain, scan-rest, scan-deeper, scan-enters, scan-opens, scan-passes}
 use Rattle.figures.proofs.Figures.join.Reads as join
 use Rattle.figures.proofs.Figures.nothing.Reads as nothing

@@ -1,7 +1,7 @@
 -- `measure` meets its contract. Assumes nothing.
 use mathlib.Core.Path.{sym, _∙_}
 use borrow.Author.Needs.{needs}
-use Rattle.figures.proofs.Calls.{free}
+use Rattle.runs.proofs.Calls.{free}
 use Rattle.stretch.proofs.Measuring.{run-starts, alone-nests, alone-strays}
 use Rattle.stretch.proofs.measure.Statement.{statement}
 use Rattle.stretch.proofs.measure.Tie as tie

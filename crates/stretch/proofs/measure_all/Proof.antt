@@ -2,7 +2,7 @@
 use Prim.Native.Nat.{_-_}
 use native.Mathlib.Omega.{arith}
 use borrow.Author.Needs.{needs}
-use Rattle.figures.proofs.Calls.{free}
+use Rattle.runs.proofs.Calls.{free}
 use Rattle.stretch.proofs.Measuring.{Measuring, measuring-starts, measuring-past, measuring-on, measuring-over, measuring-strays}
 use Rattle.stretch.proofs.measure_all.Statement.{statement}
 use Rattle.stretch.proofs.measure_all.Tie as tie

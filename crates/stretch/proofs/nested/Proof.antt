@@ -7,7 +7,7 @@ use lib.ListN.{drop}
 use borrow.Author.Needs.{needs}
 use Rattle.figures.specs.Flat.{nests}
 use Rattle.figures.specs.Scan.{Stands}
-use Rattle.figures.proofs.Calls.{free}
+use Rattle.runs.proofs.Calls.{free}
 use Rattle.figures.proofs.Counting.{Level, level-starts, level-past, level-plain, level-rest, level-opens, level-ninth, level-closes, level-lone}
 use Rattle.stretch.specs.declared.Role.{Role}
 use Rattle.stretch.specs.declared.Role.the-variants.{Other, SureRest, Loop, End}

@@ -3,7 +3,7 @@ use mathlib.Core.Path.{sym, ap, _∙_}
 use borrow.Author.Needs.{needs}
 use Rattle.language.specs.Stretch.{markOf}
 use Rattle.language.specs.Table.{statementOf}
-use Rattle.figures.proofs.Calls.{free}
+use Rattle.runs.proofs.Calls.{free}
 use Rattle.stretch.specs.Marks.{cellMark}
 use Rattle.stretch.proofs.Marking.{mark-loop, mark-time, mark-byte}
 use Rattle.stretch.proofs.Others.{other-plain}

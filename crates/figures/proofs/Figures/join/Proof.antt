@@ -2,10 +2,10 @@
 use mathlib.Core.Path.{refl, sym, ap, ap₂, _∙_}
 use mathlib.Core.Bool.{cond}
 use Prim.Native.Nat.{ℕ, _+_, max}
-use Rattle.figures.specs.Figures.{cap}
+use Rattle.runs.specs.Cap.{cap}
 use Rattle.figures.proofs.Associative.{fig-path}
 use Rattle.figures.proofs.Shapes.{joined-ends, joined-never}
-use Rattle.figures.proofs.Calls.{free}
+use Rattle.runs.proofs.Calls.{free}
 use Rattle.figures.proofs.Figures.join.Statement.{statement}
 use Rattle.figures.proofs.Figures.join.Tie as tie
 

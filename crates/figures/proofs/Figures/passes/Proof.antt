@@ -1,9 +1,9 @@
 -- `Figures::passes` meets its contract, by the test on n. Assumes nothing.
 use mathlib.Core.Path.{sym, ap, ap₂, _∙_}
 use Rattle.figures.specs.Figures.{joined, copies}
-use Rattle.figures.specs.Stretch.{over}
+use Rattle.runs.specs.Cap.{over}
 use Rattle.figures.proofs.Shapes.{looped-ever, looped-some}
-use Rattle.figures.proofs.Calls.{free}
+use Rattle.runs.proofs.Calls.{free}
 use Rattle.figures.proofs.Figures.passes.Statement.{statement}
 use Rattle.figures.proofs.Figures.passes.Tie as tie
 

@@ -1,10 +1,10 @@
 -- `Figures::repeat` meets its contract, by the tests on n, `ends` and `rests`. Assumes nothing.
 use mathlib.Core.Path.{sym, ap, ap₂, _∙_}
 use Prim.Native.Nat.{ℕ, _+_, max}
-use Rattle.figures.specs.Figures.{cap}
+use Rattle.runs.specs.Cap.{cap}
 use Rattle.figures.proofs.Associative.{fig-path}
 use Rattle.figures.proofs.Shapes.{copies-none, copies-rest, copies-flat, copies-never}
-use Rattle.figures.proofs.Calls.{free}
+use Rattle.runs.proofs.Calls.{free}
 use Rattle.figures.proofs.Figures.repeat.Statement.{statement}
 use Rattle.figures.proofs.Figures.repeat.Tie as tie
 

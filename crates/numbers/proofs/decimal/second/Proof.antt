@@ -1,10 +1,10 @@
 -- `second` meets its contract: each `return` is a case of `secondOf`. Assumes nothing.
 use mathlib.Core.Path.{sym, _∙_}
 use borrow.Author.Tests.{lt-ltb, le-ltb, le-leb, lt-leb}
-use Rattle.reader.proofs.Pairs.{second-none, second-on}
+use Rattle.numbers.proofs.Pairs.{second-none, second-on}
 use borrow.Author.Needs.{needs}
-use Rattle.reader.proofs.numbers.second.Statement.{statement}
-use Rattle.reader.proofs.numbers.second.Tie as tie
+use Rattle.numbers.proofs.decimal.second.Statement.{statement}
+use Rattle.numbers.proofs.decimal.second.Tie as tie
 
 returns : tie.Need-returns
 returns c = second-none _ _ (c .if1 .taken) _ _ _

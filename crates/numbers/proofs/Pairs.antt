@@ -8,9 +8,9 @@ use lib.Dec.{ltb, leb}
 use lib.ListN.{length, drop, getD, drop-of-length-le}
 use lib.Seq.{drop-cons}
 use borrow.Author.Tests.{lt-ltb, le-leb}
 use Rattle.reader.specs.Bytes.{digitOf}
-use Rattle.reader.specs.Number.{secondOf, pairOf, pairAt}
-use Rattle.reader.specs.declared.Number.the-variants.{Value, Bad}
+use Rattle.numbers.specs.Number.{secondOf, pairOf, pairAt}
+use Rattle.numbers.specs.declared.Number.the-variants.{Value, Bad}
 
 module _ (s : List ℕ) (at : ℕ) (outside : length s ≤ at) where
   pub second-none : (low high d : ℕ) → Bad at ≡ secondOf low high d (drop at s) at

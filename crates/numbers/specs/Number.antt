@@ -4,9 +4,9 @@ use mathlib.Core.Bool.{Bool, cond, _&&_}
 use mathlib.Core.List.{List, [], _∷_}
 use lib.ListN.{drop}
 use lib.Dec.{ltb, leb}
 use Rattle.reader.specs.Bytes.{digitOf}
-use Rattle.reader.specs.declared.Number.{Number}
-use Rattle.reader.specs.declared.Number.the-variants.{Value, Bad}
+use Rattle.numbers.specs.declared.Number.{Number}
+use Rattle.numbers.specs.declared.Number.the-variants.{Value, Bad}
 
 -- where the digits end, after `n` of them with the value `v`: one at least is needed
 unfoldable pub ended : ℕ → ℕ → ℕ → Number

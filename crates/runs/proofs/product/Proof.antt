@@ -2,11 +2,11 @@
 use Prim.Native.Nat.{_*_, _≤_}
 use native.Mathlib.Nat.{mul-le-mul}
 use native.Mathlib.Omega.{arith}
-use Rattle.figures.specs.Stretch.{over}
-use Rattle.figures.proofs.Shapes.{cap-product}
-use Rattle.figures.proofs.Calls.{free}
-use Rattle.figures.proofs.runs.product.Statement.{statement}
-use Rattle.figures.proofs.runs.product.Tie as tie
+use Rattle.runs.specs.Cap.{over}
+use Rattle.runs.proofs.Cap.{cap-product}
+use Rattle.runs.proofs.Calls.{free}
+use Rattle.runs.proofs.product.Statement.{statement}
+use Rattle.runs.proofs.product.Tie as tie
 
 mul-held : tie.Need-mul-held
 mul-held c = let h : c .before .held .result * c .held2 .result ≤ over * over = mul-le-mul {n₂ = over} {m₂ = over} (omega arith) (omega arith) in omega arith

@@ -7,9 +7,9 @@ use native.Mathlib.Omega.{arith}
 use lib.ListN.{length, drop, getD, drop-of-length-le}
 use lib.Seq.{drop-cons}
 use borrow.Author.Tests.{lt-ltb, le-ltb, le-leb, lt-leb}
 use Rattle.reader.specs.Bytes.{digitOf}
-use Rattle.reader.specs.Number.{ended, numberGo, numberAt}
-use Rattle.reader.specs.declared.Number.the-variants.{Bad}
+use Rattle.numbers.specs.Number.{ended, numberGo, numberAt}
+use Rattle.numbers.specs.declared.Number.the-variants.{Bad}
 
 -- what the whole says is what the bytes from `i` on say, after `n` digits with the value `v`
 pub record Reading (most limit : ℕ) (s : List ℕ) (at n v i : ℕ) : Type 0 where

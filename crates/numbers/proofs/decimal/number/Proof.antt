@@ -6,10 +6,10 @@ use borrow.Author.Tests.{lt-ltb, le-ltb}
 use native.Mathlib.Omega.{arith}
 use denote.Ref.{now}
 use lib.ListN.{length}
-use Rattle.reader.specs.Number.{ended, numberAt}
-use Rattle.reader.proofs.Reading.{Reading, begun, at-end, stopped, too-long, too-large, taken}
-use Rattle.reader.proofs.numbers.number.Statement.{statement}
-use Rattle.reader.proofs.numbers.number.Tie as tie
+use Rattle.numbers.specs.Number.{ended, numberAt}
+use Rattle.numbers.proofs.Reading.{Reading, begun, at-end, stopped, too-long, too-large, taken}
+use Rattle.numbers.proofs.decimal.number.Statement.{statement}
+use Rattle.numbers.proofs.decimal.number.Tie as tie
 
 abbrev Inv-loop : tie.InvT-loop
 Inv-loop s at most limit top n₀ v₀ i₀ n v i = (top ≡ limit) × Reading most limit s at n v i

@@ -6,9 +6,9 @@ use mathlib.Core.Bool.{Bool, true, false, cond, _&&_}
 use native.Mathlib.Omega.{arith}
 use lib.Dec.{ltb, leb}
 use lib.ListN.{length}
 use Rattle.reader.specs.Bytes.{digitOf}
-use Rattle.reader.specs.Number.{ended, numberGo, secondOf, pairOf}
-use Rattle.reader.specs.declared.Number.the-variants.{Value, Bad}
+use Rattle.numbers.specs.Number.{ended, numberGo, secondOf, pairOf}
+use Rattle.numbers.specs.declared.Number.the-variants.{Value, Bad}
 
 -- a choice keeps a refusal that both answers keep
 pub kept : {A : Type 0} {r : A} (t : Bool) {x y x′ y′ : A} → (x ≡ r → x′ ≡ r) → (y ≡ r → y′ ≡ r) → cond t x y ≡ r → cond t x′ y′ ≡ r

@@ -6,9 +6,9 @@ use mathlib.Core.List.{List, [], _∷_}
 use native.Mathlib.Nat.{add-zero, add-assoc}
 use lib.Dec.{ltb, leb}
 use lib.ListN.{drop}
 use Rattle.reader.specs.Bytes.{digitOf}
-use Rattle.reader.specs.Number.{ended, numberGo, numberAt, secondOf, pairOf, pairAt, moved}
-use Rattle.reader.specs.declared.Number.the-variants.{Value}
+use Rattle.numbers.specs.Number.{ended, numberGo, numberAt, secondOf, pairOf, pairAt, moved}
+use Rattle.numbers.specs.declared.Number.the-variants.{Value}
 
 -- a choice of two answers moves with both
 pub both-moved : {A : Type 0} (m : A → A) (t : Bool) {x y x′ y′ : A} → x ≡ m x′ → y ≡ m y′ → cond t x y ≡ m (cond t x′ y′)

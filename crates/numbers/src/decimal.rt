@@ -1,10 +1,10 @@
 // Decimal numbers, and values of two digits.
 ghost use Prim.Native.Nat.{_<_};
 ghost use mathlib.Core.Path.{_≡_};
-ghost use Rattle.reader.specs.Number.{numberAt, secondOf, pairAt};
+ghost use Rattle.numbers.specs.Number.{numberAt, secondOf, pairAt};
 ghost use lib.ListN.{drop};
 use super::Number;
-use super::bytes::digit;
+use reader::bytes::digit;
 
 // A digit as wide as the sums that it goes into.
 fn wide(d: u8) -> u64

@@ -1,10 +1,10 @@
 -- `pair` meets its contract: each `return` is a case of `pairOf`. Assumes nothing.
 use mathlib.Core.Path.{sym, _∙_}
 use borrow.Author.Tests.{lt-ltb, le-ltb, le-leb, lt-leb}
-use Rattle.reader.proofs.Pairs.{pair-none, pair-on, pair-first}
+use Rattle.numbers.proofs.Pairs.{pair-none, pair-on, pair-first}
 use borrow.Author.Needs.{needs}
-use Rattle.reader.proofs.numbers.pair.Statement.{statement}
-use Rattle.reader.proofs.numbers.pair.Tie as tie
+use Rattle.numbers.proofs.decimal.pair.Statement.{statement}
+use Rattle.numbers.proofs.decimal.pair.Tie as tie
 
 returns : tie.Need-returns
 returns c = pair-none _ _ (c .if1 .taken) _ _
