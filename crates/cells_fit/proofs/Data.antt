@@ -1,28 +1,18 @@
--- What the tests of data and of LOG's text decide. Assumes nothing.
+-- What the tests of data decide. Assumes nothing.
 use Prim.Native.Nat.{ℕ, _+_, _-_, _*_, _≤_, _<_}
 use mathlib.Core.Path.{_≡_, sym, ap, _∙_}
 use mathlib.Core.Bool.{Bool, true, false, _&&_}
 use mathlib.Core.List.{List}
 use native.Mathlib.Omega.{arith}
 use lib.ListN.{length, take, drop}
-use borrow.Author.Tests.{lt-ltb, eq-eqb, ne-eqb, le-leb, lt-leb}
+use borrow.Author.Tests.{eq-eqb, ne-eqb, le-leb, lt-leb}
 use Rattle.reader.specs.Bytes.{all}
 use Rattle.language.specs.declared.Span.{Span}
-use Rattle.language.specs.Limits.{logRoom}
-use Rattle.language.specs.Meaning.{signs}
-use Rattle.language.specs.Right.{isByte, inLine, dataRight, logRight}
+use Rattle.language.specs.Right.{isByte, inLine, dataRight}
 use Rattle.language.specs.Table.{dataAt}
 use Rattle.heads_fit.specs.declared.Reach.the-variants.{To, Not}
 use Rattle.cells_fit.specs.Tests.{follows}
 use Rattle.heads_fit.specs.Reach.{reaches}
-
-pub stays : (b : ℕ) → b < 256 → (b ≡ 10 → ⊥) → inLine b ≡ true
-unfolding inLine isByte
-stays b h n = rw (lt-ltb b 256 h, ne-eqb b 10 n)
-
-pub ends-line : (b : ℕ) → b ≡ 10 → inLine b ≡ false
-unfolding inLine isByte
-ends-line b e = rw e
 
 module _ (room : ℕ) (bs : List ℕ) (bytes : all isByte bs ≡ true) where
   pub data-long : room < length bs → false ≡ dataRight room bs
@@ -36,22 +26,6 @@ module _ (room : ℕ) (bs : List ℕ) (bytes : all isByte bs ≡ true) where
   pub data-text : length bs ≤ room → room < length bs * 2 → all inLine bs ≡ dataRight room bs
   unfolding dataRight
   data-text h k = simp (bytes, lt-leb (length bs * 2) room k, le-leb (length bs) room h)
-
--- ---- LOG's text
-
-module _ (text : List ℕ) where
-  pub log-long : logRoom < length text → false ≡ logRight text
-  unfolding logRight
-  log-long h = rw (lt-leb (length text) logRoom h)
-
-  module _ {t : Bool} (h : length text ≤ logRoom) (told : t ≡ signs text false) where
-    pub log-unsigned : t ≡ false → false ≡ logRight text
-    unfolding logRight
-    log-unsigned e = rw (le-leb (length text) logRoom h, sym told ∙ e)
-
-    pub log-signed : t ≡ true → {r : Bool} → r ≡ all inLine text → r ≡ logRight text
-    unfolding logRight
-    log-signed e k = k ∙ rw (le-leb (length text) logRoom h, sym told ∙ e)
 
 -- ---- data that begin at a place, and are right
 

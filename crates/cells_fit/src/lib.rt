@@ -3,13 +3,11 @@ ghost use mathlib.Core.Path.{_≡_};
 ghost use mathlib.Core.Bool.{_&&_};
 ghost use Prim.Native.Nat.{_+_, _≤_};
 ghost use lib.ListN.{take};
-ghost use Rattle.reader.specs.Bytes.{all};
-ghost use Rattle.language.specs.Right.{inLine, dataRight, logRight};
+ghost use Rattle.language.specs.Right.{dataRight, logRight};
 ghost use Rattle.language.specs.Table.{dataAt};
 ghost use Rattle.cells_fit.specs.Tests.{follows, cellsFit};
 ghost use Rattle.heads_fit.specs.Reach.{reaches};
 ghost use Rattle.cells_fit.specs.Reach.{wordReach, wordsReach};
-use arguments::spelling::right_signs;
 use coder::decode;
 use heads_fit::Reach;
 use heads_fit::zeros::bytes_zero;
@@ -18,25 +16,13 @@ use language::Cell;
 use language::Cells;
 use language::Pool;
 use language::Span;
+use plain::in_line;
+use plain::log_right;
 
 fn wide(x: u16) -> usize
     ensures { λ r. ⌜ r ≡ x ⌝ }
 {
     x as usize
-}
-
-// Whether the bytes can stand in a line: no LF is among them.
-fn in_line(text: &[u8]) -> bool
-    ensures { λ r. ⌜ r ≡ all inLine (now (text .entry)) ⌝ }
-{
-    let mut i = 0usize;
-    while i < text.len() {
-        if text[i] == 10 {
-            return false;
-        }
-        i += 1;
-    }
-    true
 }
 
 // Whether a line has room for data: in hex, or, with no LF among them, as text.
@@ -51,19 +37,6 @@ fn data_right(data: &[u8], room: usize) -> bool
         return true;
     }
     in_line(data)
-}
-
-// Whether a line can have this LOG text.
-fn log_right(text: &[u8]) -> bool
-    ensures { λ r. ⌜ r ≡ logRight (now (text .entry)) ⌝ }
-{
-    if 122 < text.len() {
-        return false;
-    }
-    if right_signs(text) {
-        return in_line(text);
-    }
-    false
 }
 
 // Where data end that begin at `at`, if a line has room for them.

@@ -1,6 +1,7 @@
 // What comes of a text: its stretch and the parts of the table that tell one short script from another, or the refusal.
 use super::say;
 use compiler::compile;
+use faults::number;
 use language::Answer;
 use language::Heads;
 use language::Table;
@@ -59,7 +60,7 @@ pub(crate) fn answer(text: &[u8]) {
             say_table(compiled.table);
         }
         Answer::Refused(fault, line) => {
-            say_byte(b": refused ", fault.number());
+            say_byte(b": refused ", number(fault));
             say_word(b" at ", line);
             say(b"\n");
         }

@@ -1,6 +1,4 @@
 // What a script is: the table that it is laid out in, its cells, and what the compiler answers.
-ghost use mathlib.Core.Path.{_≡_};
-ghost use Rattle.language.specs.Answer.{numberOf};
 
 // "Text 65,536 bytes": the longest text.
 pub const TEXT: usize = 65536;
@@ -108,28 +106,6 @@ pub enum Fault {
     LoopLeftOpen,
     TooManyProcesses,
     StretchTooLong,
-}
-
-impl Fault {
-    // "Numbers the bench reads back".
-    pub fn number(self) -> u8
-        ensures { λ r. ⌜ r ≡ numberOf self ⌝ }
-    {
-        match self {
-            Fault::TextTooLong => 12,
-            Fault::LineTooLong => 1,
-            Fault::TooManyLines => 2,
-            Fault::NoSuchName => 3,
-            Fault::BadRest => 4,
-            Fault::TooMuchData => 5,
-            Fault::TooManyOmits => 10,
-            Fault::TooManyLoops => 6,
-            Fault::EndWithoutLoop => 7,
-            Fault::LoopLeftOpen => 8,
-            Fault::TooManyProcesses => 9,
-            Fault::StretchTooLong => 11,
-        }
-    }
 }
 
 // The compiler's answer: the largest stretch of any process; or a fault, with the line that it names, the process for

@@ -1,5 +1,6 @@
 // Reads a script on standard input and prints its listing, or `refused N at L`.
 use compiler::compile;
+use faults::number;
 use language::Answer;
 use language::Fault;
 use language::Table;
@@ -22,7 +23,7 @@ fn say_word(n: u32) {
 
 fn say_refusal(fault: Fault, line: u32) {
     say(b"refused ");
-    say_byte(fault.number());
+    say_byte(number(fault));
     say(b" at ");
     say_word(line);
     say(b"\n");

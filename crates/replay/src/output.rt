@@ -1,4 +1,5 @@
 // What is printed, and parts of a buffer.
+use faults::number;
 use language::Fault;
 use libc::STDOUT_FILENO;
 
@@ -45,7 +46,7 @@ fn say_word(n: u32) {
 
 pub(crate) fn say_refusal(fault: Fault, line: u32) {
     say(b"refused ");
-    say_byte(fault.number());
+    say_byte(number(fault));
     say(b" at ");
     say_word(line);
     say(b"\n");

@@ -5,7 +5,7 @@ use denote.Ref.{now}
 use lib.ListN.{length, drop}
 use Rattle.reader.specs.Bytes.{all}
 use Rattle.language.specs.Listing.{isPlain}
-use Rattle.plain.proofs.Plain.{byte-low, byte-high, byte-plain, no-more}
+use Rattle.plain.proofs.Plain.{too-low, too-high, is-plain, byte-not, byte-past, no-more}
 use borrow.Author.Needs.{needs}
 use Rattle.plain.proofs.all_plain.Statement.{statement}
 use Rattle.plain.proofs.all_plain.Tie as tie
@@ -26,13 +26,13 @@ returns : tie.Need-returns Inv-loop μ-loop
 returns c =
     let a = c .before .before in
     let w = a .before in
-    sym (w .loop .inv ∙ byte-low (now (w .before .args .text)) (w .loop .i) (a .loop-test .taken) (c .if1 .taken))
+    sym (w .loop .inv ∙ byte-not isPlain (now (w .before .args .text)) (w .loop .i) (a .loop-test .taken) (too-low _ (c .if1 .taken)))
 
 returns-2 : tie.Need-returns-2 Inv-loop μ-loop
 returns-2 c =
     let a = c .before .before .before in
     let w = a .before in
-    sym (w .loop .inv ∙ byte-high (now (w .before .args .text)) (w .loop .i) (a .loop-test .taken) (c .before .if1 .left) (c .if2 .taken))
+    sym (w .loop .inv ∙ byte-not isPlain (now (w .before .args .text)) (w .loop .i) (a .loop-test .taken) (too-high _ (c .before .if1 .left) (c .if2 .taken)))
 
 add-i : tie.Need-add-i Inv-loop μ-loop
 add-i c = search needs
@@ -44,10 +44,10 @@ loop-again : tie.Need-loop-again Inv-loop μ-loop
 loop-again c =
     let a = c .before .before .before in
     let w = a .before in
-    w .loop .inv ∙ byte-plain (now (w .before .args .text)) (w .loop .i) (a .loop-test .taken) (c .before .if1 .left) (c .if2 .left)
+    w .loop .inv ∙ byte-past isPlain (now (w .before .args .text)) (w .loop .i) (a .loop-test .taken) (is-plain _ (c .before .if1 .left) (c .if2 .left))
 
 returns-3 : tie.Need-returns-3 Inv-loop μ-loop
-returns-3 c = sym (c .before .loop .inv ∙ no-more (now (c .before .before .args .text)) (c .before .loop .i) (c .loop-test .left))
+returns-3 c = sym (c .before .loop .inv ∙ no-more isPlain (now (c .before .before .args .text)) (c .before .loop .i) (c .loop-test .left))
 
 pub all-plain-spec : {M : Type 1} → statement M
 all-plain-spec =

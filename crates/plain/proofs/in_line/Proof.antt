@@ -1,4 +1,4 @@
--- `cells_fit::in_line` meets its contract: the bytes from i on decide. Assumes nothing.
+-- `plain::in_line` meets its contract: the bytes from i on decide. Assumes nothing.
 use mathlib.Core.Path.{_≡_, refl, sym, _∙_}
 use Prim.Native.Nat.{_-_}
 use borrow.Author.Needs.{needs}
@@ -6,10 +6,10 @@ use denote.Ref.{now}
 use lib.ListN.{length, drop}
 use Rattle.reader.specs.Bytes.{all}
 use Rattle.language.specs.Right.{inLine}
-use Rattle.heads_fit.proofs.Each.{each-past, each-not, each-end}
-use Rattle.cells_fit.proofs.Data.{stays, ends-line}
-use Rattle.cells_fit.proofs.in_line.Statement.{statement}
-use Rattle.cells_fit.proofs.in_line.Tie as tie
+use Rattle.plain.proofs.Plain.{byte-past, byte-not, no-more}
+use Rattle.plain.proofs.Held.{stays, ends-line}
+use Rattle.plain.proofs.in_line.Statement.{statement}
+use Rattle.plain.proofs.in_line.Tie as tie
 
 abbrev Inv-loop : tie.InvT-loop
 Inv-loop text i₀ i = all inLine text ≡ all inLine (drop i text)
@@ -25,7 +25,7 @@ shared-slice-read-if1 c = search needs
 
 returns : tie.Need-returns Inv-loop μ-loop
 returns c = let w = c .before .before .before in
-    sym (w .loop .inv ∙ each-not inLine (now (w .before .args .text)) (w .loop .i) (c .before .before .loop-test .taken) (ends-line _ (c .if1 .taken)))
+    sym (w .loop .inv ∙ byte-not inLine (now (w .before .args .text)) (w .loop .i) (c .before .before .loop-test .taken) (ends-line _ (c .if1 .taken)))
 
 add-i : tie.Need-add-i Inv-loop μ-loop
 add-i c = search needs
@@ -35,10 +35,10 @@ loop-less c = search needs
 
 loop-again : tie.Need-loop-again Inv-loop μ-loop
 loop-again c = let w = c .before .before .before in
-    w .loop .inv ∙ each-past inLine (now (w .before .args .text)) (w .loop .i) (c .before .before .loop-test .taken) (stays _ (c .before .shared-slice-known .given (w .loop .i) .fits) (c .if1 .left))
+    w .loop .inv ∙ byte-past inLine (now (w .before .args .text)) (w .loop .i) (c .before .before .loop-test .taken) (stays _ (c .before .shared-slice-known .given (w .loop .i) .fits) (c .if1 .left))
 
 returns-2 : tie.Need-returns-2 Inv-loop μ-loop
-returns-2 c = sym (c .before .loop .inv ∙ each-end inLine (now (c .before .before .args .text)) (c .before .loop .i) (c .loop-test .left))
+returns-2 c = sym (c .before .loop .inv ∙ no-more inLine (now (c .before .before .args .text)) (c .before .loop .i) (c .loop-test .left))
 
 pub in-line-spec : {M : Type 1} → statement M
 in-line-spec =

@@ -1,8 +1,8 @@
--- `language::Fault::number` meets its contract: each arm is given which variant the fault is. Assumes nothing.
+-- `faults::number` meets its contract: each arm is given which variant the fault is. Assumes nothing.
 use Rattle.language.specs.Answer.{numberOf}
 use borrow.Author.Needs.{needs}
-use Rattle.language.proofs.Fault.number.Statement.{statement}
-use Rattle.language.proofs.Fault.number.Tie as tie
+use Rattle.faults.proofs.number.Statement.{statement}
+use Rattle.faults.proofs.number.Tie as tie
 
 enum-told : tie.Need-enum-told
 enum-told c = search needs

@@ -1,8 +1,8 @@
--- `cells_fit::log_right` meets its contract. Assumes nothing.
-use Rattle.cells_fit.proofs.Data.{log-long, log-unsigned, log-signed}
+-- `plain::log_right` meets its contract. Assumes nothing.
+use Rattle.plain.proofs.Held.{log-long, log-unsigned, log-signed}
 use borrow.Author.Needs.{needs}
-use Rattle.cells_fit.proofs.log_right.Statement.{statement}
-use Rattle.cells_fit.proofs.log_right.Tie as tie
+use Rattle.plain.proofs.log_right.Statement.{statement}
+use Rattle.plain.proofs.log_right.Tie as tie
 
 returns : tie.Need-returns
 returns c = log-long _ (c .if1 .taken)
