@@ -20,7 +20,7 @@ use super::cells::count;
 use super::cells::placed;
 use arguments::Letters;
 use arguments::Line;
-use coder::code;
+use encoder::code;
 use language::Cell;
 use language::Cells;
 use language::DATA;
