@@ -8,9 +8,9 @@ use mathlib.Core.List.{List}
 use lib.ListN.{length, getD, List·getD-eq-default}
 use lib.Dec.{leb}
 use Rattle.reader.proofs.Tests.{both-right}
-use Rattle.language.specs.Cell.{kindOf, spanOf, spanRight, cellOf, decoded}
+use Rattle.language.specs.Cell.{spanOf, spanRight, cellOf, decoded}
 use Rattle.language.specs.declared.Cell.{Cell}
-use Rattle.language.specs.declared.Cell.the-variants.{Nothing, Send, Loop, End, WaitTime, WaitData, WaitByte, WaitClock, WaitSignal, Rts, Log, Fchange, Pause, Resume, Nop, Unknown}
+use Rattle.language.specs.declared.Cell.the-variants.{Nothing}
 
 -- data within the pool have an argument of at most 24 bits
 pub within-pool : (low high a : ℕ) → spanRight low high (spanOf a) ≡ true → a < 8388608
@@ -18,24 +18,6 @@ unfolding spanRight
 within-pool low high a h =
     let inside = both-right (leb (a % 128) high) _ (both-right (leb low (a % 128)) _ h) in
     omega (arith, leb-true (a / 128 + a % 128) 1024 inside)
-
-pub kind-small : (c : Cell) → kindOf c < 16
-kind-small Nothing = omega arith
-kind-small (Send s) = omega arith
-kind-small (Loop n) = omega arith
-kind-small End = omega arith
-kind-small (WaitTime n) = omega arith
-kind-small (WaitData s) = omega arith
-kind-small (WaitByte n) = omega arith
-kind-small (WaitClock c) = omega arith
-kind-small (WaitSignal l) = omega arith
-kind-small (Rts on) = omega arith
-kind-small (Log s) = omega arith
-kind-small Fchange = omega arith
-kind-small Pause = omega arith
-kind-small Resume = omega arith
-kind-small Nop = omega arith
-kind-small Unknown = omega arith
 
 -- the cell of a word whose kind is known
 pub kind-is : (w k : ℕ) {r : Cell} → w / 67108864 ≡ k → r ≡ cellOf k (w % 67108864) → r ≡ decoded w

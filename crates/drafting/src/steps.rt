@@ -13,7 +13,7 @@ ghost use Rattle.work.specs.Cells.{asksOf, countIn, shapeIn};
 ghost use Rattle.drafting.specs.Stands.{Stands, Took, Takes, Nests, Within, Fits, Fronts, Writes, Steps, bytesIn};
 use arguments::Letters;
 use arguments::Line;
-use coder::code;
+use encoder::code;
 use language::Cell;
 use language::Cells;
 use language::DATA;

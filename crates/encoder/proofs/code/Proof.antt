@@ -1,11 +1,11 @@
--- `language::coder::code` meets its contract. Assumes nothing.
+-- `encoder::code` meets its contract. Assumes nothing.
 use mathlib.Core.Path.{ap₂, _∙_}
 use Prim.Native.Nat.{ℕ, _+_, _*_, _%_}
 use Rattle.language.specs.Cell.{coded}
-use Rattle.coder.proofs.Coding.{kind-small}
+use Rattle.encoder.proofs.Encoding.{kind-small}
 use borrow.Author.Needs.{needs}
-use Rattle.coder.proofs.code.Statement.{statement}
-use Rattle.coder.proofs.code.Tie as tie
+use Rattle.encoder.proofs.code.Statement.{statement}
+use Rattle.encoder.proofs.code.Tie as tie
 
 kind-requires : tie.Need-kind-requires
 kind-requires c κs = search needs

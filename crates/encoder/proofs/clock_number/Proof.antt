@@ -1,8 +1,8 @@
--- `language::coder::clock_number` meets its contract. Assumes nothing.
+-- `encoder::clock_number` meets its contract. Assumes nothing.
 use Rattle.language.specs.Cell.{clockNumber}
 use borrow.Author.Needs.{needs}
-use Rattle.coder.proofs.clock_number.Statement.{statement}
-use Rattle.coder.proofs.clock_number.Tie as tie
+use Rattle.encoder.proofs.clock_number.Statement.{statement}
+use Rattle.encoder.proofs.clock_number.Tie as tie
 
 cast-minutes : tie.Need-cast-minutes
 cast-minutes c = search needs

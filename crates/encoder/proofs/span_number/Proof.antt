@@ -1,8 +1,8 @@
--- `language::coder::span_number` meets its contract. Assumes nothing.
+-- `encoder::span_number` meets its contract. Assumes nothing.
 use Rattle.language.specs.Cell.{spanNumber}
 use borrow.Author.Needs.{needs}
-use Rattle.coder.proofs.span_number.Statement.{statement}
-use Rattle.coder.proofs.span_number.Tie as tie
+use Rattle.encoder.proofs.span_number.Statement.{statement}
+use Rattle.encoder.proofs.span_number.Tie as tie
 
 cast-result : tie.Need-cast-result
 cast-result c = search needs

@@ -1,7 +1,7 @@
--- `language::coder::signal_number` meets its contract. Assumes nothing.
+-- `encoder::signal_number` meets its contract. Assumes nothing.
 use borrow.Author.Needs.{needs}
-use Rattle.coder.proofs.signal_number.Statement.{statement}
-use Rattle.coder.proofs.signal_number.Tie as tie
+use Rattle.encoder.proofs.signal_number.Statement.{statement}
+use Rattle.encoder.proofs.signal_number.Tie as tie
 
 cast-signal : tie.Need-cast-signal
 cast-signal c = search needs
