@@ -1,6 +1,6 @@
 -- What the drain answers and leaves: none is ready, or the lowest-numbered ready process has its turn. Assumes nothing.
 use Prim.Native.Nat.{ℕ, zero, suc, _≤_, _<_}
-use mathlib.Core.Path.{_≡_, refl, sym, ap, ap₂, _∙_}
+use mathlib.Core.Path.{_≡_, refl, ap, _∙_}
 use mathlib.Core.Bool.{Bool, true, false, cond}
 use mathlib.Core.List.{List, [], _∷_}
 use native.Mathlib.Omega.{arith}
@@ -11,7 +11,7 @@ use Rattle.language.specs.Limits.{processLimit}
 use Rattle.process.specs.declared.Process.{Process}
 use Rattle.process.specs.declared.State.{State}
 use Rattle.process.specs.declared.Refusal.the-variants.{SmallBuffer, BadTable}
-use Rattle.statement.specs.Moving.{moved, cellAt}
+use Rattle.statement.specs.Moving.{moved}
 use Rattle.outcome.specs.declared.Outcome.{Outcome}
 use Rattle.outcome.specs.declared.Outcome.the-variants.{Quiet, Refused}
 use Rattle.turn.specs.declared.Turn.{Turn}

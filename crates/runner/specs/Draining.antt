@@ -1,17 +1,15 @@
 -- The drain. "A drain does one statement of the lowest-numbered ready process and says what it sent, recorded or switched; or says
 -- quiet exactly when none is ready."
 use Prim.Native.Nat.{ℕ, suc}
-use mathlib.Core.Bool.{Bool, true, false, cond}
+use mathlib.Core.Bool.{Bool, false, cond}
 use mathlib.Core.List.{List, [], _∷_}
 use lib.ListN.{length, getD, set, replicate}
 use lib.Seq as seq
 use lib.Dec.{ltb}
 use Rattle.language.specs.Limits.{loopLimit, processLimit}
-use Rattle.process.specs.declared.Reading.{Reading}
 use Rattle.process.specs.declared.Wait.the-variants.{Over}
 use Rattle.process.specs.declared.Process.{Process}
 use Rattle.process.specs.declared.State.{State}
-use Rattle.process.specs.declared.Refusal.{Refusal}
 use Rattle.process.specs.declared.Refusal.the-variants.{SmallBuffer, BadTable}
 use Rattle.outcome.specs.declared.Outcome.{Outcome}
 use Rattle.outcome.specs.declared.Outcome.the-variants.{Quiet, Refused}
@@ -19,7 +17,7 @@ use Rattle.runner.specs.declared.Drained.{Drained}
 use Rattle.process.specs.Waiting.{ready}
 use Rattle.statement.specs.Moving.{moved, cellAt}
 use Rattle.outcome.specs.Saying.{outcomeOf, pausedBy, countedBy}
-use Rattle.turn.specs.Writing.{bytesOf}
+use Rattle.turn.specs.Turns.{acts, written}
 
 -- the number, from 0, of the first process that is ready; their number where none is
 unfoldable pub lowest : List Process → ℕ
@@ -36,11 +34,11 @@ turn s = getD (s .processes) (lowest (s .processes)) nobody
 
 -- the drain does a statement: one is ready, found within the table, and the buffer has 128 bytes
 unfoldable pub does : List ℕ → State → ℕ → Bool
-does cells s room = cond (ltb (lowest (s .processes)) processLimit) (cond (moved cells (s .levels) (turn s) .found) (ltb 127 room) false) false
+does cells s room = cond (ltb (lowest (s .processes)) processLimit) (acts cells (s .levels) (turn s) room) false
 
 -- what the statement writes
 unfoldable pub writes : List ℕ → List ℕ → State → List ℕ → List ℕ
-writes cells pool s counts = bytesOf pool (s .reading) (getD counts (turn s .place) 0) (cellAt cells (turn s))
+writes cells pool s counts = written cells pool (s .reading) counts (turn s)
 
 -- the state after the statement
 unfoldable pub stateAfter : List ℕ → State → State
