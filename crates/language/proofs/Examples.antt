@@ -5,20 +5,16 @@ use Prim.Native.String.{String}
 use mathlib.Core.Path.{_≡_, refl}
 use mathlib.Core.List.{List, [], _∷_}
 use Rattle.reader.specs.Ascii.{ascii}
-use Rattle.language.proofs.Opened.{printed, lists, refuses, doneOf}
-use Rattle.language.specs.Script.{Statement, waitTime, waitData, nop}
+use Rattle.language.proofs.Opened.{printed, lists, refuses}
 
--- a text, and what is printed of it: the listing with its stretch, or the number and the line of the refusal; or the statements
--- of its processes as they are done
+-- a text, and what is printed of it: the listing with its stretch, or the number and the line of the refusal
 pub data Case : Type 0 where
   gives : String → ℕ → String → Case
   fails : String → ℕ → ℕ → Case
-  joins : String → List (List Statement) → Case
 
 abbrev pub Says : Case → Type 0
 Says (gives text stretch listing) = printed (ascii text) ≡ lists stretch (ascii listing)
 Says (fails text number line) = printed (ascii text) ≡ refuses number line
-Says (joins text done) = doneOf (ascii text) ≡ done
 
 abbrev pub All : List Case → Type 0
 All [] = Unit {0}
@@ -174,14 +170,8 @@ examples =
     ∷ fails "#LOOP 2048\n/A\n#END" 11 1
     ∷ fails "#LOOP\n#WAIT CTSON\n#END" 11 1
     ∷ fails "#NOP\n#PROCESS\n#LOOP\n#END\n#PROCESS\n#LOOP\n#END" 11 2
-    -- joined waits: "Only comment, blank and f: lines may stand between"; `#NOP`, `#WAIT TIME 0` and `#PROCESS` part them
-    ∷ joins "#WAIT DATA /ABC\n#WAIT DATA /XYZ" ((waitData (ascii "ABCXYZ") ∷ []) ∷ [])
-    ∷ joins "#WAIT DATA /A\n; one\n\n#f:EX1 IN\n#WAIT DATA /B\n#WAIT DATA /C" ((waitData (ascii "ABC") ∷ []) ∷ [])
-    ∷ joins "#WAIT DATA /ABC\n#NOP\n#WAIT DATA /XYZ" ((waitData (ascii "ABC") ∷ nop ∷ waitData (ascii "XYZ") ∷ []) ∷ [])
-    ∷ joins "#WAIT DATA /ABC\n#WAIT TIME 0\n#WAIT DATA /XYZ" ((waitData (ascii "ABC") ∷ waitTime 0 ∷ waitData (ascii "XYZ") ∷ []) ∷ [])
-    ∷ joins "#WAIT DATA /ABC\n#PROCESS\n#WAIT DATA /XYZ" ((waitData (ascii "ABC") ∷ []) ∷ (waitData (ascii "XYZ") ∷ []) ∷ [])
     ∷ []
 
 pub agree : All examples
-unfolding printed doneOf
-agree = (refl, (refl, (refl, (refl, (refl, (refl, (refl, (refl, (refl, (refl, (refl, (refl, (refl, (refl, (refl, (refl, (refl, (refl, (refl, (refl, (refl, (refl, (refl, (refl, (refl, (refl, (refl, (refl, (refl, (refl, (refl, (refl, (refl, (refl, (refl, (refl, (refl, (refl, (refl, (refl, (refl, (refl, (refl, (refl, (refl, (refl, (refl, (refl, (refl, (refl, (refl, (refl, (refl, (refl, (refl, (refl, (refl, (refl, (refl, (refl, (refl, (refl, (refl, (refl, (refl, (refl, (refl, (refl, (refl, (refl, (refl, (refl, (refl, (refl, (refl, (refl, (refl, (refl, (refl, (refl, (refl, (refl, (refl, (refl, (refl, (refl, (refl, (refl, (refl, (refl, (refl, (refl, (refl, (refl, (refl, (refl, (refl, (refl, (refl, (refl, (refl, (refl, (refl, (refl, (refl, (refl, (refl, (refl, (refl, (refl, (refl, (refl, (refl, (refl, (refl, (refl, (refl, (refl, (refl, (refl, (refl, (refl, (refl, (refl, (refl, (refl, (refl, (refl, (refl, (refl, (refl, (refl, (refl, (refl, (refl, (refl, (refl, tt)))))))))))))))))))))))))))))))))))))))))))))))))))))))))))))))))))))))))))))))))))))))))))))))))))))))))))))))))))))))))))))))))))))))))
+unfolding printed
+agree = (refl, (refl, (refl, (refl, (refl, (refl, (refl, (refl, (refl, (refl, (refl, (refl, (refl, (refl, (refl, (refl, (refl, (refl, (refl, (refl, (refl, (refl, (refl, (refl, (refl, (refl, (refl, (refl, (refl, (refl, (refl, (refl, (refl, (refl, (refl, (refl, (refl, (refl, (refl, (refl, (refl, (refl, (refl, (refl, (refl, (refl, (refl, (refl, (refl, (refl, (refl, (refl, (refl, (refl, (refl, (refl, (refl, (refl, (refl, (refl, (refl, (refl, (refl, (refl, (refl, (refl, (refl, (refl, (refl, (refl, (refl, (refl, (refl, (refl, (refl, (refl, (refl, (refl, (refl, (refl, (refl, (refl, (refl, (refl, (refl, (refl, (refl, (refl, (refl, (refl, (refl, (refl, (refl, (refl, (refl, (refl, (refl, (refl, (refl, (refl, (refl, (refl, (refl, (refl, (refl, (refl, (refl, (refl, (refl, (refl, (refl, (refl, (refl, (refl, (refl, (refl, (refl, (refl, (refl, (refl, (refl, (refl, (refl, (refl, (refl, (refl, (refl, (refl, (refl, (refl, (refl, (refl, tt))))))))))))))))))))))))))))))))))))))))))))))))))))))))))))))))))))))))))))))))))))))))))))))))))))))))))))))))))))))))))))))))))))

@@ -13,9 +13,8 @@ use Rattle.figures.specs.Flat.{fragments}
 use Rattle.figures.specs.Figures.{join, capped, again, looped, figures}
 use Rattle.language.specs.Lines.{dropCr, inFront, rawLines, eachLine, linesOf}
 use Rattle.language.specs.Clock.{within, valueBefore, fill, from, clockOf, inTwos, clockLetter, clockText}
-use Rattle.language.specs.Script.{Statement, default, inFirst, processes, shape, dataOf}
+use Rattle.language.specs.Script.{default, inFirst, processes, shape, dataOf}
 use Rattle.language.specs.Meaning.{bare, numberSays, number, loopOf, byteOf, timeIn, timeBy, timeOf, clockSays, markedData, dataSays, sendSays, omitSays, rtsOf, isSign, signs, logOf, encodeHex, encodeByte, encodeOf, stopbitsOf, isCapital, raised, raise, extension, lfextOf, exIn, lookup, signal, waits, waitOf, names, named, meaning}
-use Rattle.language.specs.Joined.{awaits, joinTwo, joinTo, joinedIn, done}
 use Rattle.language.specs.Stretch.{markOf, stretchOf, largestOf, largest}
 use Rattle.language.specs.Draft.{Result, accepted, refused, start, countLine, withSettings, withItem, nest, takeNested, takeStatement, withNext, withFirst, beginning, takeProcess, takeOmit, take, takeCounted, isComment, takeLine, after, stretched, finished, fold, resultOf}
 use Rattle.language.specs.Listing.{isPlain, inHex, dataText, countText, timeText, onText, signalText, logText, lineFor, itemLine, itemLines, bodyLines, encodeLines, settingLines, listedLines, joined, listing}
@@ -34,13 +33,3 @@ printedBy (refused f row) = refuses (numberOf f) row
 unfoldable pub printed : List ℕ → Printed
 unfolding isBlank digitOf same skip wordOf afterWord beforeEnd trimEnd argument ended numberGo numberAt secondOf pairOf pairAt hex.before stepOf hexGo hexAt hexSecond hexByteOf hexByteAt capital hexText fixed widthGo widthOf decimal twoDigits flat.before fragments join capped again looped figures dropCr inFront rawLines eachLine linesOf within valueBefore fill from clockOf inTwos clockLetter clockText default inFirst processes shape dataOf bare numberSays number loopOf byteOf timeIn timeBy timeOf clockSays markedData dataSays sendSays omitSays rtsOf isSign signs logOf encodeHex encodeByte encodeOf stopbitsOf isCapital raised raise extension lfextOf exIn lookup signal waits waitOf names named meaning markOf stretchOf largestOf largest start countLine withSettings withItem nest takeNested takeStatement withNext withFirst beginning takeProcess takeOmit take takeCounted isComment takeLine after stretched finished fold resultOf isPlain inHex dataText countText timeText onText signalText logText lineFor itemLine itemLines bodyLines encodeLines settingLines listedLines joined listing numberOf scriptFrom printedBy
 printed s = printedBy (scriptFrom s)
-
--- the statements of each process as they are done; none of a refused text
-unfoldable pub doneBy : Result → List (List Statement)
-unfolding done
-doneBy (accepted s) = done (s .body)
-doneBy (refused f row) = []
-
-unfoldable pub doneOf : List ℕ → List (List Statement)
-unfolding printed awaits joinTwo joinTo joinedIn done doneBy
-doneOf s = doneBy (scriptFrom s)

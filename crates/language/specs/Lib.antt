@@ -5,7 +5,6 @@ pub mod Lines
 pub mod Clock
 pub mod Script
 pub mod Meaning
-pub mod Joined
 pub mod Stretch
 pub mod Draft
 pub mod Listing

@@ -1,5 +1,6 @@
--- The table of the cases marked P in document 01 holds: each case is what the definitions compute. Assumes nothing.
-use mathlib.Core.Path.{_≡_, refl}
+-- The table of the cases marked P in document 01 holds: each case is what the definitions compute; a run is computed of the script, and the runner has it
+-- by the theorem that what runs is the script. Assumes nothing.
+use mathlib.Core.Path.{_≡_, refl, sym, ap, _∙_}
 use mathlib.Core.Bool.{true}
 use mathlib.Core.List.{List, [], _∷_}
 use Prim.Native.Nat.{ℕ}
@@ -11,41 +12,35 @@ use Rattle.language.specs.Right.{isByte}
 use Rattle.language.specs.Right as right
 use Rattle.language.specs.Cell as cell
 use Rattle.language.specs.Table as table
-use Rattle.language.specs.Answer.{answered, compiled}
+use Rattle.language.specs.Draft.{Result}
+use Rattle.language.specs.Answer.{answered, scriptFrom, compiled}
+use Rattle.running.specs.Joined as joined
 use Rattle.language.proofs.Opened.{printed}
-use Rattle.accepted.specs.Accepted.{tableRight}
 use Rattle.process.specs.declared.Taken.the-variants as taken
-use Rattle.process.specs.Matching as matching
-use Rattle.process.specs.Waiting as waiting
 use Rattle.recording.specs.Recording as recording
-use Rattle.receiving.specs.Receiving as receiving
-use Rattle.process.specs.Events as events
-use Rattle.joining.specs.Joining as joining
-use Rattle.loops.specs.Loops as looping
-use Rattle.statement.specs.Moving as moving
 use Rattle.record.specs.Logging as logging
-use Rattle.outcome.specs.Saying as saying
-use Rattle.turn.specs.Writing as writes
-use Rattle.runner.specs.Draining as draining
-use Rattle.starting.specs.Starting as starting
-use Rattle.starting.specs.Starting.{startState, noCounts}
-use Rattle.runner.specs.Calls as calls
-use Rattle.runner.specs.Calls.{Box, Call, start, Reply, event, boxed, replies}
-use Rattle.promises.specs.Cases.{Case, answers, writesOut, holds, alike, runs, Says, All, cases}
-use Rattle.promises.proofs.Accepting.{fitting}
+use Rattle.runner.specs.Calls.{Call, Reply, event}
+use Rattle.running.specs.Running as script
+use Rattle.running.specs.Agreement.{repliesOf}
+use Rattle.running.proofs.Agreement.{runs-script}
+use Rattle.promises.specs.Cases.{Case, answers, writesOut, holds, alike, runs, Runs, Says, All, cases}
 
--- what is computed of a run: the text compiles, and the replies from the state of a start on
+-- what is computed of a run: the text compiles, and the replies of its script
 record Ran (text : List ℕ) (qs : List Call) (rs : List Reply) : Type 0 where
   stretch : ℕ
   bytes : all isByte text ≡ true
   result : compiled text ≡ record { answer = Accepted stretch; table = compiled text .table }
-  replied : replies tableRight (compiled text .table) (boxed (startState (compiled text .table .heads)) noCounts) qs ≡ rs
+  replied : (y : script.Box) → repliesOf (scriptFrom text) y qs ≡ event taken.Took ∷ rs
 
--- so the start is taken, whatever the box held before
-runs-so : (text : List ℕ) (qs : List Call) (rs : List Reply) → Ran text qs rs → (b : Box) →
-    replies tableRight (compiled text .table) b (start ∷ qs) ≡ event taken.Took ∷ rs
-unfolding replies calls.called calls.startCall starting.startEvent starting.startCounts
-runs-so text qs rs r b = rw (fitting {text = text} {t = compiled text .table} {k = r .stretch} (record { bytes = r .bytes; result = r .result }) .started, r .replied)
+-- so the runner replies likewise: what runs is the script
+runs-so : (text : List ℕ) (qs : List Call) (rs : List Reply) → Ran text qs rs → Runs text qs rs
+runs-so text qs rs r =
+    let same = runs-script {text = text} {t = compiled text .table} {k = r .stretch} (record { bytes = r .bytes; result = r .result }) in
+    let y : script.Box = script.started (same .body) in
+    record {
+      script = r .replied;
+      runner = λ b. same .answers b y qs ∙ ap (λ (x : Result). repliesOf x y qs) (sym (same .said)) ∙ r .replied y;
+    }
 
 -- what is computed of a case, and of all
 abbrev Computed : Case → Type 0
@@ -71,9 +66,9 @@ all-say [] e = tt
 all-say (c ∷ cs) e = (says c (e .0), all-say cs (e .1))
 
 computed : AllComputed cases
-unfolding compiled printed writing.times writing.repeated writing.written writing.run answered isByte right.timeRight cell.spanNumber cell.clockNumber cell.coded cell.spanRight cell.unitRight cell.fixedRight cell.cellOf cell.decoded cell.clockFrom table.cellFor table.wordsFrom table.poolOf table.endsFrom table.headsOf table.laidOut matching.progress matching.advance waiting.awake waiting.matchedWait waiting.progressRight recording.oneOf recording.copies events.busy receiving.rangesRight receiving.byteEvent looping.opened looping.again looping.pass looping.closed joining.neighbours joining.theirBytes moving.awaits moving.movedBy moving.moved logging.signText logging.writtenOut logging.recordOf logging.nextCount draining.lowest writes.bytesOf saying.outcomeOf saying.pausedBy saying.countedBy draining.does draining.writes draining.stateAfter draining.drained draining.countsAfter starting.started starting.startedFrom startState calls.called replies
+unfolding compiled scriptFrom printed writing.times writing.repeated writing.written writing.run answered isByte right.timeRight cell.spanNumber cell.clockNumber cell.coded cell.spanRight cell.unitRight cell.fixedRight cell.cellOf cell.decoded cell.clockFrom table.cellFor table.wordsFrom table.poolOf table.endsFrom table.headsOf table.laidOut joined.joinedIn joined.joinTo joined.joinTwo joined.awaits joined.done script.nextIn script.nextBy script.isStatement script.busy script.endsIn script.gets script.closed script.logged script.does script.later script.takes script.turn script.drained script.timesBy script.times script.started script.called script.replies recording.oneOf logging.signText logging.writtenOut logging.recordOf logging.nextCount
 computed =
-    (refl, (λ m. refl, (refl, (λ m. refl, (refl, (λ m. refl, (refl, (refl, (refl, (record { stretch = 0; bytes = refl; result = refl; replied = refl }, (refl, (refl, (refl, (refl, (refl, (refl, (record { stretch = 1; bytes = refl; result = refl; replied = refl }, (record { stretch = 1; bytes = refl; result = refl; replied = refl }, (record { stretch = 7; bytes = refl; result = refl; replied = refl }, tt)))))))))))))))))))
+    (refl, (λ m. refl, (refl, (λ m. refl, (refl, (λ m. refl, (refl, (refl, (refl, (record { stretch = 0; bytes = refl; result = refl; replied = λ y. refl }, (refl, (refl, (refl, (refl, (refl, (refl, (record { stretch = 1; bytes = refl; result = refl; replied = λ y. refl }, (record { stretch = 1; bytes = refl; result = refl; replied = λ y. refl }, (record { stretch = 7; bytes = refl; result = refl; replied = λ y. refl }, tt)))))))))))))))))))
 
 -- THE THEOREM
 pub cases-hold : All cases

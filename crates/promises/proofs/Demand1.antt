@@ -27,10 +27,10 @@ use Rattle.outcome.specs.Saying.{outcomeOf}
 use Rattle.runner.specs.Draining.{lowest, turn, does, writes, stateAfter, unaltered, drained, bufferAfter, countsAfter}
 use Rattle.runner.specs.Calls as calls
 use Rattle.starting.specs.Starting.{startEvent, startCounts}
-use Rattle.runner.specs.Calls.{Box, Call, start, tick, byte, reading, drain, Reply, event, outcome, Called, boxed, startCall}
-use Rattle.promises.specs.Replies.{called, takenNumber, receivedNumber, outcomeNumber, replyNumber}
+use Rattle.runner.specs.Calls.{Box, Call, start, tick, byte, reading, drain, Reply, event, outcome, boxed, startCall}
+use Rattle.bounded.specs.Replies.{called, takenNumber, receivedNumber, outcomeNumber, replyNumber}
 use Rattle.promises.specs.Demand1.{Refuses, Spares}
-use Rattle.promises.proofs.Calling.{outcome-did}
+use Rattle.bounded.proofs.Calling.{outcome-did}
 
 -- ---- the numbers
 

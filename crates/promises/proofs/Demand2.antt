@@ -12,9 +12,9 @@ use Rattle.stretch.specs.Marks.{processesOf}
 use Rattle.stretch.specs.Reported.{Says}
 use Rattle.stretch.proofs.Reports.{measured-reported}
 use Rattle.accepted.proofs.Exactly.{laid-out, script-right}
-use Rattle.promises.specs.Replies.{Compiles}
+use Rattle.bounded.specs.Replies.{Compiles}
 use Rattle.promises.specs.Demand2.{Faithful}
-use Rattle.promises.proofs.Accepting.{fitting}
+use Rattle.bounded.proofs.Accepting.{fitting}
 
 pub demand-2 : {text : List ℕ} {t : Table} {k : ℕ} → Compiles text t k → Faithful t k
 unfolding compiled scriptFrom answered

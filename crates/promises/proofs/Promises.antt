@@ -3,15 +3,19 @@ use mathlib.Core.List.{List}
 use Prim.Native.Nat.{ℕ}
 use Rattle.language.specs.declared.Table.{Table}
 use Rattle.runner.specs.Calls.{Box, Call}
-use Rattle.promises.specs.Replies.{Compiles}
+use Rattle.bounded.specs.Replies.{Compiles}
+use Rattle.bounded.specs.Demand3.{fresh, after, Bounded}
+use Rattle.bounded.proofs.Demand3.{demand-3}
+use Rattle.running.specs.Agreement.{RunsScript}
+use Rattle.running.proofs.Agreement.{runs-script}
 use Rattle.promises.specs.Demand1.{AltersNothing}
-use Rattle.promises.specs.Agrees.{Agrees}
-use Rattle.promises.specs.Demand3.{fresh, after, Bounded}
+use Rattle.promises.specs.Demand2.{Faithful}
+use Rattle.promises.specs.Agrees.{Means, Whatever}
 use Rattle.promises.specs.Cases.{All, cases}
 use Rattle.promises.specs.Settled.{Shapes, Settled}
 use Rattle.promises.proofs.Refusals.{alters-nothing}
-use Rattle.promises.proofs.Agreeing.{agrees}
-use Rattle.promises.proofs.Demand3.{demand-3}
+use Rattle.promises.proofs.Demand2.{demand-2}
+use Rattle.promises.proofs.Agreeing.{means, whatever}
 use Rattle.promises.proofs.Settling.{shapes, settled}
 use Rattle.promises.proofs.Cases.{cases-hold}
 
@@ -19,9 +23,22 @@ use Rattle.promises.proofs.Cases.{cases-hold}
 pub a-refusal-alters-nothing : AltersNothing
 a-refusal-alters-nothing = alters-nothing
 
--- 2. Compiling and running agree with the script reference as read in document 01. A listing printed from a table compiles to that same table.
-pub running-agrees : Agrees
-running-agrees = agrees
+-- 2. Compiling and running agree with the script reference as read in document 01: whatever the box held before and whatever calls follow a start, refused
+-- ones among them, the runner with the table of an accepted text answers them, byte for byte, as the text's script does.
+pub what-runs-is-the-script : {text : List ℕ} {t : Table} {k : ℕ} → Compiles text t k → RunsScript text t
+what-runs-is-the-script = runs-script
+
+-- What a script does, in the words of document 01: when its waits end, how often a loop is passed, what a drain says, what is recorded and counted.
+pub what-a-script-does : Means
+what-a-script-does = means
+
+-- A listing printed from a table compiles to that same table.
+pub a-listing-compiles-back : {text : List ℕ} {t : Table} {k : ℕ} → Compiles text t k → Faithful t k
+a-listing-compiles-back = demand-2
+
+-- Of every table and state there can be, those that no script has too.
+pub whatever-the-table : Whatever
+whatever-the-table = whatever
 
 -- 3. Take a script that was accepted, started afresh, with table and states handed on unaltered. Under every sequence of calls, refused ones among
 -- them, no process leaves its own statements, holds more than 8 open loops or is answered 25; and between a start, or an accepted event, and the next

@@ -1,7 +1,5 @@
 -- Two outcomes that meet a public function's statement are equal: one law for each shape of statement. Assumes nothing.
 use mathlib.Core.Path.{_≡_, sym, ap₂, _∙_}
-use mathlib.Core.List.{List}
-use Prim.Native.Nat.{ℕ}
 use lib.ListN.{length}
 use Rattle.language.specs.Answer.{compiled}
 use Rattle.accepted.specs.Accepted.{tableRight}

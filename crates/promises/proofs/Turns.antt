@@ -30,10 +30,10 @@ use Rattle.outcome.specs.Saying.{outcomeOf}
 use Rattle.runner.specs.Draining.{lowest, nobody, turn, does, writes, unaltered, stateAfter, drained, countsAfter}
 use Rattle.runner.specs.Calls as calls
 use Rattle.runner.specs.Calls.{Box, Call, start, tick, byte, reading, level, drain, answeredBy, receivedBy}
-use Rattle.promises.specs.Replies.{called}
-use Rattle.promises.specs.Waits as claims
-use Rattle.promises.specs.Waits.{withPaused, CountsAlways, isEvent, TakenWhenQuiet, OneStatement}
-use Rattle.promises.proofs.Several.{busy-lowest}
+use Rattle.bounded.specs.Replies.{called, isEvent}
+use Rattle.bounded.specs.Replies as replies
+use Rattle.promises.specs.Turns.{withPaused, CountsAlways, TakenWhenQuiet, OneStatement}
+use Rattle.bounded.proofs.Several.{busy-lowest}
 
 -- ---- "It counts for waits in every case"
 
@@ -76,12 +76,12 @@ module _ (b : Box) where
 
   -- refused, it alters nothing
   refused-fair : (r : Refusal) → Fair (refused (b .state) r)
-  unfolding claims.took
+  unfolding replies.took
   refused-fair r = record { only = λ e. true-is-false (sym e); unaltered = λ e. refl }
 
   module _ (quiet : busy (b .state) ≡ false) where
     took-fair : (s : State) → Fair (took s)
-    unfolding claims.took
+    unfolding replies.took
     took-fair s = record { only = λ e. quiet; unaltered = λ e. true-is-false e }
 
     -- by a test of its own
@@ -95,11 +95,11 @@ module _ (b : Box) where
   FairByte e = TakenWhenQuiet b (receivedBy (b .counts) e)
 
   refused-byte : (r : Refusal) → FairByte (answeredWith (b .state) (received.Refused r))
-  unfolding claims.took
+  unfolding replies.took
   refused-byte r = record { only = λ e. true-is-false (sym e); unaltered = λ e. refl }
 
   took-byte : (s : State) (c : Copies) → busy (b .state) ≡ false → FairByte (answeredWith s (received.Took c))
-  unfolding claims.took
+  unfolding replies.took
   took-byte s c quiet = record { only = λ e. quiet; unaltered = λ e. true-is-false e }
 
   byte-fair : (pool : List ℕ) (h : Heads) (x : ℕ) → FairByte (byteEvent pool h (b .state) x)

@@ -18,13 +18,13 @@ use Rattle.language.specs.Cell.{decoded}
 use Rattle.language.specs.Script.{Statement, processes}
 use Rattle.language.specs.Stretch.{markOf}
 use Rattle.language.specs.Draft.{Result, accepted, refused, resultOf}
-use Rattle.language.specs.Answer.{numberOf, compiled}
+use Rattle.language.specs.Answer.{numberOf, scriptFrom, compiled}
 use Rattle.accepted.specs.Accepted.{tableRight}
 use Rattle.process.specs.declared.Taken.the-variants as taken
-use Rattle.process.specs.declared.Received.the-variants as received
-use Rattle.outcome.specs.declared.Outcome.the-variants.{Quiet, Sent, Recorded, Plain}
-use Rattle.runner.specs.Calls as calls
-use Rattle.runner.specs.Calls.{Box, Call, start, byte, drain, Reply, event, outcome, replies}
+use Rattle.runner.specs.Calls.{Box, Call, start, byte, drain, Reply, event, replies}
+use Rattle.bounded.specs.Replies.{once, quiet, plain, sent, recorded}
+use Rattle.running.specs.Running as script
+use Rattle.running.specs.Agreement.{repliesOf}
 
 -- what the bench reads back of a text: the stretch; or the number of the refusal, and the line or process
 pub data Told : Type 0 where
@@ -55,7 +55,7 @@ abbrev pub unbounded : List ℕ → Result
 unbounded text = resultOf (λ p. 0) text
 
 -- a text, and what it is answered; the longest run of its one process written out; the statements of its processes; two texts with the same table;
--- or the replies to some calls
+-- or the replies to some calls after a start
 pub data Case : Type 0 where
   answers : String → Told → Case
   writesOut : String → ℕ → Case
@@ -63,38 +63,23 @@ pub data Case : Type 0 where
   alike : String → String → Case
   runs : String → List Call → List Reply → Case
 
--- the table of a refused text has no process, so one with statements is an accepted text's; a run begins with a start, whatever the box held before
+-- a run begins with a start, whatever the box held before: what the script that the text says does, and what the runner does with its table
+pub record Runs (text : List ℕ) (qs : List Call) (rs : List Reply) : Type 0 where
+  pub script : (y : script.Box) → repliesOf (scriptFrom text) y qs ≡ event taken.Took ∷ rs
+  pub runner : (b : Box) → replies tableRight (compiled text .table) b (start ∷ qs) ≡ event taken.Took ∷ rs
+
+-- the table of a refused text has no process, so one with statements is an accepted text's
 abbrev pub Says : Case → Type 0
 Says (answers text a) = told (compiled (ascii text) .answer) ≡ a
 Says (writesOut text k) = (m : ℕ) → longestBy m (unbounded (ascii text)) ≡ k ∷ []
 Says (holds text ps) = statements (compiled (ascii text) .table) ≡ ps
 Says (alike one other) = compiled (ascii one) .table ≡ compiled (ascii other) .table
-Says (runs text qs rs) = (b : Box) → replies tableRight (compiled (ascii text) .table) b (start ∷ qs) ≡ event taken.Took ∷ rs
+Says (runs text qs rs) = Runs (ascii text) qs rs
 
 -- every case of a table of cases
 abbrev pub All : List Case → Type 0
 All [] = Unit {0}
 All (c ∷ cs) = Says c × All cs
-
--- replies: a byte is recorded once; a drain is quiet, does a statement that says nothing, sends a byte or records one
-abbrev pub once : Reply
-once = calls.received (received.Took (record { count = 1 }))
-
--- a drain that says quiet
-abbrev pub quiet : Reply
-quiet = outcome Quiet []
-
--- a drain whose statement neither sent, recorded nor switched
-abbrev pub plain : Reply
-plain = outcome Plain []
-
--- one that sent a byte
-abbrev pub sentOne : ℕ → Reply
-sentOne b = outcome (Sent (record { bytes = 1 })) (b ∷ [])
-
--- one that recorded a byte
-abbrev pub recordedOne : ℕ → Reply
-recordedOne b = outcome (Recorded (record { bytes = 1 })) (b ∷ [])
 
 -- each byte, and a drain after it
 abbrev pub bytesThen : List ℕ → List Call → List Call
@@ -134,10 +119,10 @@ cases =
     ∷ answers "#WAIT CLOCK h00\n" (stretch 0)
     ∷ alike "#WAIT CLOCK D\n" "#WAIT CLOCK h00\n"
     -- "Wait for AAB, bytes AAAB: ends at the fourth."
-    ∷ runs "#WAIT DATA /AAB\n/!\n" (drain 128 ∷ bytesThen (ascii "AAAB") []) (plain ∷ waitsThrough (ascii "AAA") (once ∷ sentOne 33 ∷ []))
+    ∷ runs "#WAIT DATA /AAB\n/!\n" (drain 128 ∷ bytesThen (ascii "AAAB") []) (plain ∷ waitsThrough (ascii "AAA") (once ∷ sent (33 ∷ []) ∷ []))
     -- "ABC joined with XYZ, bytes ABC123XYZ: does not end."
     ∷ runs "#WAIT DATA /ABC\n#WAIT DATA /XYZ\n/!\n" (drain 128 ∷ bytesThen (ascii "ABC123XYZ") []) (plain ∷ waitsThrough (ascii "ABC123XYZ") [])
     -- "Two LOG lines of the same text: each shows 0 first.", and 1 next
     ∷ runs "#LOOP 2\n#LOG @c\n#LOG @c\n#END\n" (drain 128 ∷ drain 128 ∷ drain 128 ∷ drain 128 ∷ drain 128 ∷ drain 128 ∷ drain 128 ∷ drain 128 ∷ [])
-    (plain ∷ recordedOne 48 ∷ recordedOne 48 ∷ plain ∷ recordedOne 49 ∷ recordedOne 49 ∷ plain ∷ quiet ∷ [])
+    (plain ∷ recorded (48 ∷ []) ∷ recorded (48 ∷ []) ∷ plain ∷ recorded (49 ∷ []) ∷ recorded (49 ∷ []) ∷ plain ∷ quiet ∷ [])
     ∷ []

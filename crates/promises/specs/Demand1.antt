@@ -24,7 +24,7 @@ use Rattle.process.specs.declared.Reading.{Reading}
 use Rattle.record.specs.Logging.{recordAnswer, recordInto}
 use Rattle.runner.specs.Draining.{drained, bufferAfter}
 use Rattle.runner.specs.Calls.{Box, Call}
-use Rattle.promises.specs.Replies.{called, outcomeNumber, replyNumber}
+use Rattle.bounded.specs.Replies.{called, outcomeNumber, replyNumber}
 
 -- a call on a box: 0 is no refusal, and the runner's numbers are 21 to 25
 pub record Refuses (t : Table) (b : Box) (q : Call) : Type 0 where

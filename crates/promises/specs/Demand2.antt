@@ -6,7 +6,7 @@ use Rattle.language.specs.Listing.{listing}
 use Rattle.language.specs.Table.{scriptOf}
 use Rattle.stretch.specs.declared.Measured.the-variants.{Largest}
 use Rattle.stretch.specs.Reported.{Reported}
-use Rattle.promises.specs.Replies.{Compiles}
+use Rattle.bounded.specs.Replies.{Compiles}
 
 -- of a table that some text compiles to, with the stretch k
 pub record Faithful (t : Table) (k : ℕ) : Type 0 where

@@ -8,18 +8,13 @@ use Prim.Native.Nat.{ℕ}
 use lib.ListN.{length}
 use Rattle.language.specs.declared.Heads.{Heads}
 use Rattle.language.specs.declared.Table.{Table}
-use Rattle.language.specs.declared.Compiled.{Compiled}
 use Rattle.language.specs.Answer.{compiled}
 use Rattle.accepted.specs.Accepted.{tableRight}
-use Rattle.lister.specs.declared.Listed.{Listed}
 use Rattle.lister.specs.Listed.{listAnswer, listInto}
 use Rattle.process.specs.declared.Reading.{Reading}
 use Rattle.process.specs.declared.State.{State}
-use Rattle.process.specs.declared.Event.{Event}
-use Rattle.process.specs.declared.ByteEvent.{ByteEvent}
 use Rattle.process.specs.Events.{tickEvent, readingEvent, levelEvent}
 use Rattle.receiving.specs.Receiving.{byteEvent}
-use Rattle.runner.specs.declared.Drained.{Drained}
 use Rattle.starting.specs.Starting.{startEvent, startCounts}
 use Rattle.runner.specs.Draining.{drained, bufferAfter, countsAfter}
 

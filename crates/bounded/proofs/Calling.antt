@@ -1,0 +1,256 @@
+-- Every call leaves the processes of an accepted script's table within their bounds, and none is answered 25. Assumes nothing.
+use mathlib.Core.Path.{_≡_, refl, sym, _∙_}
+use mathlib.Core.Bool.{Bool, true, false, cond}
+use mathlib.Core.List.{List, [], map, append-nil}
+use Prim.Native.Nat.{ℕ, suc, _+_, _<_}
+use native.Mathlib.Nat.{le-refl}
+use native.Mathlib.Decide.{ℕ-discrete}
+use native.Mathlib.Omega.{arith}
+use lib.Dec.{eqb, ltb, leb}
+use lib.ListN.{length, getD, set, length-set, length-map}
+use lib.Seq.{getD-set-same, getD-set-other}
+use borrow.Author.Tests.{ltb-true, le-leb, eq-eqb, ne-eqb}
+use Rattle.reader.proofs.Tests.{both, by-cases}
+use Rattle.figures.specs.Flat.{Mark}
+use Rattle.language.specs.declared.Heads.{Heads}
+use Rattle.language.specs.declared.Table.{Table}
+use Rattle.language.specs.declared.Cell.{Cell}
+use Rattle.language.specs.declared.Cell.the-variants as cell
+use Rattle.language.specs.Limits.{omitLimit, processLimit}
+use Rattle.language.specs.Cell.{level}
+use Rattle.stretch.specs.Marks.{begins, stops}
+use Rattle.stretch.specs.Scan.{marksTo}
+use Rattle.stretch.proofs.Marking.{marks-length}
+use Rattle.process.specs.declared.Reading.{Reading}
+use Rattle.process.specs.declared.Process.{Process}
+use Rattle.process.specs.declared.State.{State}
+use Rattle.process.specs.declared.Refusal.{Refusal}
+use Rattle.process.specs.declared.Refusal.the-variants.{Busy, BadReading, NoSuchSignal, SmallBuffer}
+use Rattle.process.specs.declared.Received.the-variants as received
+use Rattle.outcome.specs.declared.Outcome.the-variants.{Quiet, Refused}
+use Rattle.process.specs.declared.Event.{Event}
+use Rattle.process.specs.declared.ByteEvent.{ByteEvent}
+use Rattle.runner.specs.declared.Drained.{Drained}
+use Rattle.process.specs.Waiting.{ticked, byteTaken, readingTaken, levelTaken}
+use Rattle.recording.specs.Recording.{copies}
+use Rattle.process.specs.Events.{refusalNumber, every, busy, refused, took, withProcesses, tickEvent, readingRight, readingEvent, levelEvent}
+use Rattle.receiving.specs.Receiving.{rangesRight, byteEvent}
+use Rattle.statement.specs.Moving.{moved, cellAt}
+use Rattle.outcome.specs.Saying.{outcomeOf}
+use Rattle.runner.specs.Draining.{lowest, nobody, turn, writes, stateAfter, unaltered, drained}
+use Rattle.starting.specs.Starting.{startAt, started, startState, noCounts, startEvent, startCounts}
+use Rattle.runner.specs.Calls as calls
+use Rattle.runner.specs.Calls.{Box, Call, start, tick, byte, reading, drain, outcome, Called, boxed, answeredBy, receivedBy, startCall}
+use Rattle.bounded.specs.Replies.{called, outcomeNumber, replyNumber, did}
+use Rattle.bounded.specs.Demand3.{tally, firstOf, endOf}
+use Rattle.bounded.proofs.Ahead.{opensOf, onward}
+use Rattle.bounded.proofs.Stands.{Held, Good}
+use Rattle.bounded.proofs.Ways.{awake-right, awake-fine}
+use Rattle.bounded.proofs.Moves.{moved-good}
+use Rattle.bounded.proofs.Waits.{tick-good, byte-good, reading-good, level-good}
+use Rattle.bounded.proofs.Accepting.{Sound, Fitting}
+use Rattle.bounded.proofs.Several.{lowest-ready, map-at, every-right, started-length, started-at}
+
+-- the processes of a state, f being the statements that each has done since the last start or accepted event
+pub record All (t : Table) (k : ℕ) (s : State) (f : ℕ → ℕ) : Type 0 where
+  pub eight : length (s .processes) ≡ processLimit
+  pub every : (i : ℕ) → i < processLimit → Held (marksTo (t .cells) (endOf (t .heads) i)) (firstOf (t .heads) i) k (f i) (getD (s .processes) i nobody)
+
+-- what a call on a box leaves, and what it is answered
+pub record Keeps (t : Table) (k : ℕ) (b : Box) (f : ℕ → ℕ) (r : Called) : Type 0 where
+  pub all : All t k (r .box .state) (tally (b .state) (r .reply) f)
+  pub found : replyNumber (r .reply) ≡ 25 → ⊥
+
+-- ---- a start
+
+module _ (cells pool : List ℕ) (k first end : ℕ) (s : Sound cells pool k first end) where
+  start-held : Held (marksTo cells end) first k 0 (startAt first end)
+  unfolding opensOf onward
+  start-held =
+      let long = marks-length cells end (s .own .inside) in
+      record {
+        fine =
+            awake-fine (marksTo cells end) first k 0 first end [] (sym long) (omega arith)
+            (record { nested = s .nested; few = omega arith; low = le-refl first; high = omega (arith, s .order); kept = tt })
+            (λ m. rw append-nil (s .most m));
+        left = refl;
+        back = refl;
+        ends = sym long;
+        right = awake-right first end;
+      }
+
+started-is : (b : Bool) (x y : ℕ) → cond b (startAt x y) (startAt 0 0) ≡ startAt (cond b x 0) (cond b y 0)
+started-is true x y = refl
+started-is false x y = refl
+
+-- ---- what a statement says
+
+pub outcome-did : (n : ℕ) (c : Cell) → (did (outcomeOf n c) ≡ true) × (outcomeNumber (outcomeOf n c) ≡ 0)
+unfolding outcomeOf
+outcome-did n cell.Nothing = (refl, refl)
+outcome-did n (cell.Send s) = (refl, refl)
+outcome-did n (cell.Loop k) = (refl, refl)
+outcome-did n cell.End = (refl, refl)
+outcome-did n (cell.WaitTime k) = (refl, refl)
+outcome-did n (cell.WaitData s) = (refl, refl)
+outcome-did n (cell.WaitByte k) = (refl, refl)
+outcome-did n (cell.WaitClock c) = (refl, refl)
+outcome-did n (cell.WaitSignal l) = (refl, refl)
+outcome-did n (cell.Rts on) = (refl, refl)
+outcome-did n (cell.Log s) = (refl, refl)
+outcome-did n cell.Fchange = (refl, refl)
+outcome-did n cell.Pause = (refl, refl)
+outcome-did n cell.Resume = (refl, refl)
+outcome-did n cell.Nop = (refl, refl)
+outcome-did n cell.Unknown = (refl, refl)
+
+module _ (t : Table) (k : ℕ) (a : Fitting t k) where
+  abbrev hs : Heads
+  hs = t .heads
+
+  pub start-all : All t k (startState hs) (λ i. 0)
+  unfolding startState started
+  start-all = record {
+    eight = started-length hs 0 processLimit;
+    every = λ i l.
+        let e : 0 + i ≡ i = omega arith in
+        rw (started-at hs 0 processLimit i l, e, started-is (ltb i (hs .processes)) (begins hs i) (stops hs i))
+        (start-held (t .cells) (t .pool) k (firstOf hs i) (endOf hs i) (a .sound i));
+  }
+
+  module _ (b : Box) (f : ℕ → ℕ) (h : All t k (b .state) f) where
+    -- ---- events
+
+    -- all processes changed alike
+    changed-all : (g : Process → Process) → g nobody ≡ nobody → ((ms : List Mark) (first n : ℕ) (p : Process) → Held ms first k n p → Held ms first k 0 (g p)) →
+        (r : Reading) (ls : List Bool) (paused : Bool) →
+        All t k (record { processes = map g (b .state .processes); reading = r; levels = ls; paused = paused }) (λ i. 0)
+    changed-all g e keeps r ls paused = record {
+      eight = length-map (b .state .processes) g ∙ h .eight;
+      every = λ i l.
+          rw (map-at g e (b .state .processes) i)
+          (keeps (marksTo (t .cells) (endOf hs i)) (firstOf hs i) (f i) (getD (b .state .processes) i nobody) (h .every i l));
+    }
+
+    took-keeps : (counts : List ℕ) (s : State) → All t k s (λ i. 0) → Keeps t k b f (answeredBy counts (took s))
+    unfolding tally replyNumber
+    took-keeps counts s c = record { all = c; found = λ e. omega arith }
+
+    refused-keeps : (r : Refusal) → (refusalNumber r ≡ 25 → ⊥) → Keeps t k b f (answeredBy (b .counts) (refused (b .state) r))
+    unfolding tally replyNumber
+    refused-keeps r n = record { all = h; found = n }
+
+    busy-keeps : Keeps t k b f (answeredBy (b .counts) (refused (b .state) Busy))
+    unfolding refusalNumber
+    busy-keeps = refused-keeps Busy (λ e. omega arith)
+
+    -- an event is answered 21, or it goes on
+    unless-busy : (e : Event) → Keeps t k b f (answeredBy (b .counts) e) → Keeps t k b f (answeredBy (b .counts) (cond (busy (b .state)) (refused (b .state) Busy) e))
+    unless-busy e c =
+        by-cases (λ (x : Event). Keeps t k b f (answeredBy (b .counts) x)) (busy (b .state)) (refused (b .state) Busy) e (λ u. busy-keeps) (λ u. c)
+
+    -- and then by a test of its own, or it is taken
+    only-if : (u : Bool) (s : State) (r : Refusal) → All t k s (λ i. 0) → (refusalNumber r ≡ 25 → ⊥) →
+        Keeps t k b f (answeredBy (b .counts) (cond u (took s) (refused (b .state) r)))
+    only-if u s r c n =
+        by-cases (λ (x : Event). Keeps t k b f (answeredBy (b .counts) x)) u (took s) (refused (b .state) r) (λ v. took-keeps (b .counts) s c) (λ v. refused-keeps r n)
+
+    ranges-right : rangesRight hs (b .state) ≡ true
+    unfolding rangesRight
+    ranges-right =
+        both (leb (hs .omits) omitLimit) _ (le-leb (hs .omits) omitLimit (a .omitted))
+        (every-right (b .state .processes) (λ i l. h .every i (omega (arith, h .eight)) .right))
+
+    byte-keeps : (x : ℕ) → Keeps t k b f (receivedBy (b .counts) (byteEvent (t .pool) hs (b .state) x))
+    unfolding byteEvent tally replyNumber refusalNumber
+    byte-keeps x =
+        let s : State = b .state in
+        let took : ByteEvent =
+        record { state = withProcesses s (map (byteTaken (t .pool) x) (s .processes)); answer = received.Took (record { count = copies hs (s .paused) x }) }
+        in
+        rw ranges-right
+        (by-cases (λ (e : ByteEvent). Keeps t k b f (receivedBy (b .counts) e)) (busy s) (record { state = s; answer = received.Refused Busy }) took
+        (λ u. record { all = h; found = λ e. omega arith })
+        (λ u. record {
+          all = changed-all (byteTaken (t .pool) x) refl (λ ms first n p c. byte-good ms first k n p c (t .pool) x) (s .reading) (s .levels) (s .paused);
+          found = λ e. omega arith;
+        }))
+
+    -- ---- a drain
+
+    -- process i in place of what it was, one statement on
+    put : (i : ℕ) (p : Process) → i < processLimit → Held (marksTo (t .cells) (endOf hs i)) (firstOf hs i) k (suc (f i)) p → (j : ℕ) → j < processLimit → Dec (j ≡ i) →
+        Held (marksTo (t .cells) (endOf hs j)) (firstOf hs j) k (cond (eqb j i) (suc (f j)) (f j)) (getD (set (b .state .processes) i p) j nobody)
+    put i p lt c j l (yes e) = rw (e, eq-eqb i i refl, getD-set-same (b .state .processes) i p nobody (omega (arith, h .eight))) c
+    put i p lt c j l (no e) = rw (ne-eqb j i e, getD-set-other (b .state .processes) i j p nobody e) (h .every j l)
+
+    -- whatever the counts and the written bytes
+    abbrev Drains : Drained → Type 0
+    Drains d = (counts bytes : List ℕ) → Keeps t k b f (record { box = boxed (d .state) counts; reply = outcome (d .outcome) bytes })
+
+    small-keeps : Drains (unaltered (b .state) (Refused SmallBuffer))
+    unfolding tally replyNumber refusalNumber
+    small-keeps counts bytes = record { all = h; found = λ e. omega arith }
+
+    quiet-keeps : Drains (unaltered (b .state) Quiet)
+    unfolding tally replyNumber
+    quiet-keeps counts bytes = record { all = h; found = λ e. omega arith }
+
+    module _ (lt : lowest (b .state .processes) < processLimit) where
+      abbrev i : ℕ
+      i = lowest (b .state .processes)
+
+      statement : Good (marksTo (t .cells) (endOf hs i)) (firstOf hs i) k (suc (f i)) (moved (t .cells) (b .state .levels) (turn (b .state)))
+      statement =
+          moved-good (t .cells) (t .pool) (firstOf hs i) (endOf hs i) k (f i) (a .sound i .own) (b .state .levels) (turn (b .state)) (h .every i lt)
+          (lowest-ready (b .state .processes) (omega (arith, h .eight)))
+
+      done-keeps : (n : ℕ) → Drains (record { state = stateAfter (t .cells) (b .state); outcome = outcomeOf n (cellAt (t .cells) (turn (b .state))) })
+      unfolding tally replyNumber stateAfter
+      done-keeps n counts bytes =
+          let c : Cell = cellAt (t .cells) (turn (b .state)) in
+          let p : Process = moved (t .cells) (b .state .levels) (turn (b .state)) .process in
+          record {
+            all = record {
+              eight = length-set (b .state .processes) i p ∙ h .eight;
+              every = λ j l. rw (outcome-did n c .0) (put i p lt (statement .held) j l (ℕ-discrete j i));
+            };
+            found = λ e. omega (arith, outcome-did n c .1);
+          }
+
+    drain-keeps : (counts : List ℕ) (room : ℕ) → Drains (drained (t .cells) (t .pool) (b .state) counts room)
+    unfolding drained
+    drain-keeps counts room =
+        by-cases Drains (ltb (lowest (b .state .processes)) processLimit) _ _
+        (λ e.
+        let lt = ltb-true (lowest (b .state .processes)) processLimit e in
+        rw (statement lt .found) (by-cases Drains (ltb 127 room) _ _ (λ u. done-keeps lt (length (writes (t .cells) (t .pool) (b .state) counts))) (λ u. small-keeps)))
+        (λ e. by-cases Drains (ltb 127 room) _ _ (λ u. quiet-keeps) (λ u. small-keeps))
+
+    -- ---- every call
+
+    pub call-keeps : (q : Call) → Keeps t k b f (called t q b)
+    unfolding calls.called startCall startEvent startCounts tickEvent readingEvent levelEvent refusalNumber
+    call-keeps start = rw (a .started) (took-keeps noCounts (startState hs) start-all)
+    call-keeps tick =
+        let s : State = b .state in
+        unless-busy (took (withProcesses s (map ticked (s .processes))))
+        (took-keeps (b .counts) (withProcesses s (map ticked (s .processes)))
+        (changed-all ticked refl (λ ms first n p c. tick-good ms first k n p c) (s .reading) (s .levels) (s .paused)))
+    call-keeps (byte x) = byte-keeps x
+    call-keeps (reading r) =
+        let s : State = b .state in
+        let after : State = record { processes = map (readingTaken r) (s .processes); reading = r; levels = s .levels; paused = s .paused } in
+        unless-busy (cond (readingRight r) (took after) (refused s BadReading))
+        (only-if (readingRight r) after BadReading (changed-all (readingTaken r) refl (λ ms first n p c. reading-good ms first k n p c r) r (s .levels) (s .paused))
+        (λ e. omega arith))
+    call-keeps (calls.level n on) =
+        let s : State = b .state in
+        let after : State =
+        record { processes = map (levelTaken (level n on)) (s .processes); reading = s .reading; levels = set (s .levels) n on; paused = s .paused }
+        in
+        unless-busy (cond (ltb n 5) (took after) (refused s NoSuchSignal))
+        (only-if (ltb n 5) after NoSuchSignal
+        (changed-all (levelTaken (level n on)) refl (λ ms first m p c. level-good ms first k m p c (level n on)) (s .reading) (set (s .levels) n on) (s .paused))
+        (λ e. omega arith))
+    call-keeps (drain room) = drain-keeps (b .counts) room _ _

@@ -1,0 +1,121 @@
+-- Texts that compile, calls of the runner, and what a reply says: what the demands have in common. Assumes nothing: these are definitions.
+use mathlib.Core.Path.{_≡_}
+use mathlib.Core.Bool.{Bool, true, false}
+use mathlib.Core.List.{List, []}
+use Prim.Native.Nat.{ℕ}
+use lib.ListN.{length}
+use Rattle.reader.specs.Bytes.{all}
+use Rattle.language.specs.declared.Table.{Table}
+use Rattle.language.specs.declared.Answer.the-variants.{Accepted}
+use Rattle.language.specs.Right.{isByte}
+use Rattle.language.specs.Answer.{compiled}
+use Rattle.accepted.specs.Accepted.{tableRight}
+use Rattle.process.specs.declared.Taken.{Taken}
+use Rattle.process.specs.declared.Taken.the-variants as taken
+use Rattle.process.specs.declared.Received.{Received}
+use Rattle.process.specs.declared.Received.the-variants as received
+use Rattle.outcome.specs.declared.Outcome.{Outcome}
+use Rattle.outcome.specs.declared.Outcome.the-variants.{Quiet, Sent, Recorded, Rts, Fchange, Pause, Resume, Plain, Refused}
+use Rattle.process.specs.Events.{refusalNumber}
+use Rattle.runner.specs.Calls as calls
+use Rattle.runner.specs.Calls.{Box, Call, start, tick, byte, reading, level, drain, Reply, event, outcome, Called}
+
+-- "a script that was accepted": a text of bytes compiles to the table t, and k is the stretch that is reported
+pub record Compiles (text : List ℕ) (t : Table) (k : ℕ) : Type 0 where
+  pub bytes : all isByte text ≡ true
+  pub result : compiled text ≡ record { answer = Accepted k; table = t }
+
+-- a call of the runner, which starts a table exactly if some accepted script has it
+abbrev pub called : Table → Call → Box → Called
+called = calls.called tableRight
+
+-- ---- "Numbers the bench reads back": the number that a reply refuses by; 0 is no refusal
+
+-- "is answered 25": the number that an event is refused by, 0 where it is taken
+abbrev pub takenNumber : Taken → ℕ
+takenNumber taken.Took = 0
+takenNumber (taken.Refused r) = refusalNumber r
+
+-- the number that a received byte is answered by, 0 where it is taken
+abbrev pub receivedNumber : Received → ℕ
+receivedNumber (received.Took c) = 0
+receivedNumber (received.Refused r) = refusalNumber r
+
+-- likewise of a drain
+abbrev pub outcomeNumber : Outcome → ℕ
+outcomeNumber Quiet = 0
+outcomeNumber (Sent n) = 0
+outcomeNumber (Recorded n) = 0
+outcomeNumber (Rts s) = 0
+outcomeNumber Fchange = 0
+outcomeNumber Pause = 0
+outcomeNumber Resume = 0
+outcomeNumber Plain = 0
+outcomeNumber (Refused r) = refusalNumber r
+
+-- likewise of any call
+unfoldable pub replyNumber : Reply → ℕ
+replyNumber (event a) = takenNumber a
+replyNumber (calls.received a) = receivedNumber a
+replyNumber (outcome o bytes) = outcomeNumber o
+
+-- a drain did a statement
+abbrev pub did : Outcome → Bool
+did Quiet = false
+did (Sent n) = true
+did (Recorded n) = true
+did (Rts s) = true
+did Fchange = true
+did Pause = true
+did Resume = true
+did Plain = true
+did (Refused r) = false
+
+-- ---- events
+
+-- a reply says that its event was taken
+abbrev pub tookEvent : Taken → Bool
+tookEvent taken.Took = true
+tookEvent (taken.Refused r) = false
+
+-- likewise a received byte
+abbrev pub tookByte : Received → Bool
+tookByte (received.Took c) = true
+tookByte (received.Refused r) = false
+
+-- likewise any call
+unfoldable pub took : Reply → Bool
+took (event a) = tookEvent a
+took (calls.received a) = tookByte a
+took (outcome o bytes) = false
+
+-- a call that is an event
+abbrev pub isEvent : Call → Bool
+isEvent start = false
+isEvent tick = true
+isEvent (byte x) = true
+isEvent (reading r) = true
+isEvent (level n on) = true
+isEvent (drain room) = false
+
+-- ---- replies by name
+
+-- a byte that is taken and recorded once
+abbrev pub once : Reply
+once = calls.received (received.Took (record { count = 1 }))
+
+-- a drain that says quiet
+abbrev pub quiet : Reply
+quiet = outcome Quiet []
+
+-- a drain whose statement neither sent, recorded nor switched
+abbrev pub plain : Reply
+plain = outcome Plain []
+
+-- one that sent some bytes
+abbrev pub sent : List ℕ → Reply
+sent bs = outcome (Sent (record { bytes = length bs })) bs
+
+-- one that recorded some
+abbrev pub recorded : List ℕ → Reply
+recorded bs = outcome (Recorded (record { bytes = length bs })) bs

@@ -1,0 +1,189 @@
+-- A drain is answered alike by the runner and by the script, and leaves boxes that are alike. Assumes nothing.
+use mathlib.Core.Path.{_≡_, refl, sym, ap, ap₂, subst, _∙_}
+use mathlib.Core.Bool.{Bool, true, false, cond}
+use mathlib.Core.List.{List, []}
+use Prim.Native.Nat.{ℕ, _+_, _≤_, _<_}
+use native.Mathlib.Omega.{arith}
+use lib.Dec.{ltb}
+use lib.ListN.{length, getD, set, length-set}
+use borrow.Author.Tests.{lt-ltb, le-ltb}
+use Rattle.reader.proofs.Tests.{true-is-false}
+use Rattle.language.specs.declared.Heads.{Heads}
+use Rattle.language.specs.declared.Table.{Table}
+use Rattle.language.specs.declared.Cell.{Cell}
+use Rattle.language.specs.Limits.{linesLimit, processLimit}
+use Rattle.language.specs.Script.{Statement, Script}
+use Rattle.stretch.specs.Scan.{marksTo}
+use Rattle.stretch.proofs.Marking.{marks-length}
+use Rattle.accepted.specs.Accepted.{tableRight}
+use Rattle.process.specs.declared.Wait.{Wait}
+use Rattle.process.specs.declared.Wait.the-variants.{Ready, Over, Ticks, Bytes, Data, ClockValue, Signal}
+use Rattle.process.specs.declared.Process.{Process}
+use Rattle.process.specs.declared.State.{State}
+use Rattle.process.specs.declared.Refusal.the-variants.{SmallBuffer}
+use Rattle.process.specs.Waiting.{readyWait, ready}
+use Rattle.loops.specs.declared.Moved.{Moved}
+use Rattle.statement.specs.Moving.{movedBy, moved, cellAt}
+use Rattle.outcome.specs.declared.Outcome.the-variants.{Quiet, Refused}
+use Rattle.outcome.specs.Saying.{outcomeOf, pausedBy, countedBy}
+use Rattle.turn.specs.Writing.{bytesOf}
+use Rattle.runner.specs.Draining as draining
+use Rattle.runner.specs.Draining.{lowest, nobody, writes, stateAfter, unaltered, drained, countsAfter}
+use Rattle.runner.specs.Calls as calls
+use Rattle.runner.specs.Calls.{Box, reading, drain, outcome, boxed}
+use Rattle.bounded.specs.Demand3.{firstOf, endOf}
+use Rattle.bounded.proofs.Stands.{Held}
+use Rattle.bounded.proofs.Opens.{opens-length}
+use Rattle.bounded.proofs.Moves.{Own, moved-good}
+use Rattle.bounded.proofs.Several.{lowest-ready}
+use Rattle.bounded.proofs.Calling.{All}
+use Rattle.running.specs.Running as script
+use Rattle.running.specs.Running.{forNothing, statement, nextIn, nextBy, next, none, turn, Deed, does}
+use Rattle.running.proofs.From.{from}
+use Rattle.running.proofs.Alike.{Waits}
+use Rattle.running.proofs.StatementsAgree.{Does, by-cell}
+use Rattle.running.proofs.Turns.{Alike, Alikes, One, Turned, quiet, one, turned}
+use Rattle.running.proofs.Starts.{Bears, counts-apart}
+use Rattle.running.proofs.EventsAgree.{boxOf, Answers}
+
+-- a process that is ready waits for nothing
+ready-waits : (pool : List ℕ) (ss : List Statement) (w : Wait) (v : script.Wait) → Waits pool ss w v → readyWait w ≡ true → v ≡ forNothing
+ready-waits pool ss Ready v h e = h .0
+ready-waits pool ss Over v h e = h .0
+ready-waits pool ss (Ticks n) v h e = true-is-false (sym e)
+ready-waits pool ss (Bytes n) v h e = true-is-false (sym e)
+ready-waits pool ss (Data m) v h e = true-is-false (sym e)
+ready-waits pool ss (ClockValue c) v h e = true-is-false (sym e)
+ready-waits pool ss (Signal l) v h e = true-is-false (sym e)
+
+module _ (t : Table) (s : Script) (k : ℕ) (a : Bears t s k) (b : Box) (f : ℕ → ℕ) (h : All t k (b .state) f) (qs : List script.Process)
+    (al : Alikes t (b .counts) 0 (b .state .processes) qs) (many : length (b .counts) ≡ linesLimit) where
+  abbrev hs : Heads
+  hs = t .heads
+
+  abbrev st : State
+  st = b .state
+
+  abbrev bx : script.Box
+  bx = boxOf st qs
+
+  -- ---- a drain
+
+  -- whatever the room, where the test of 128 bytes is made
+  abbrev Drains : ℕ → Type 0
+  Drains room = Answers t (calls.called tableRight t (drain room) b) (script.called s (drain room) bx)
+
+  quiet-answers : (room : ℕ) → length (st .processes) ≤ lowest (st .processes) → turn bx qs ≡ none → Drains room
+  unfolding calls.called drained draining.does countsAfter script.called script.drained
+  quiet-answers room l n = rw (le-ltb (lowest (st .processes)) processLimit (omega (arith, h .eight)), n) (go (ltb 127 room))
+    where
+      go : (u : Bool) → Answers t
+          (record { box = boxed (cond u (unaltered st Quiet) (unaltered st (Refused SmallBuffer)) .state) (b .counts); reply = outcome (cond u (unaltered st Quiet) (unaltered st (Refused SmallBuffer)) .outcome) [] })
+          (cond u (record { box = bx; reply = outcome Quiet [] }) (record { box = bx; reply = outcome (Refused SmallBuffer) [] }))
+      go true = record { reply = refl; after = qs; box = refl; alike = al; many = many }
+      go false = record { reply = refl; after = qs; box = refl; alike = al; many = many }
+
+  module _ (low : ℕ) (e : lowest (st .processes) ≡ low) (o : One t (b .counts) bx 0 (st .processes) qs low) where
+    abbrev p : Process
+    p = getD (st .processes) low nobody
+
+    abbrev c : Cell
+    c = cellAt (t .cells) p
+
+    there : low < processLimit
+    there = omega (arith, o .there, h .eight)
+
+    held : Held (marksTo (t .cells) (endOf hs low)) (firstOf hs low) k (f low) p
+    held = h .every low there
+
+    is-ready : ready p ≡ true
+    is-ready = rw e at (lowest-ready (st .processes) (omega (arith, o .there, e)))
+
+    abbrev own : Own (t .cells) (t .pool) (endOf hs low)
+    own = a .fits .sound low .own
+
+    live : p .place < endOf hs low
+    live = omega (arith, held .fine .live is-ready, marks-length (t .cells) (endOf hs low) (own .inside))
+
+    related : Alike t low (b .counts) p (o .process)
+    related = let z : 0 + low ≡ low = omega arith in rw z at (o .alike)
+
+    is-found : moved (t .cells) (st .levels) p .found ≡ true
+    is-found = moved-good (t .cells) (t .pool) (firstOf hs low) (endOf hs low) k (f low) own (st .levels) p held is-ready .found
+
+    moved-is : moved (t .cells) (st .levels) p ≡ movedBy (t .cells) (st .levels) p c
+    unfolding moved
+    moved-is = rw (lt-ltb (p .place) linesLimit (omega (arith, live, own .small)), lt-ltb (p .place) (p .end) (omega (arith, live, related .ends)))
+
+    doing : Does (t .cells) (t .pool) (firstOf hs low) (endOf hs low) (b .counts) bx p (o .process) c
+    doing =
+        by-cell (t .cells) (t .pool) (firstOf hs low) (endOf hs low) own (a .long) (b .counts) bx p (o .process) related (held .fine .sits .low) live
+        (omega (arith, opens-length (p .depth) (p .left) (p .back), held .fine .sits .few)) (held .left) (held .back) many c refl (rw moved-is at is-found)
+
+    next-is : next (o .process) ≡ statement (doing .statement) (doing .behind)
+    unfolding nextBy nextIn
+    next-is =
+        ap₂ nextBy (ready-waits (t .pool) (from (t .cells) (t .pool) (endOf hs low) (p .place)) (p .wait) (o .process .wait) (related .wait) is-ready)
+        (related .coming ∙ doing .front)
+
+    -- what was written, what the script does, and the counts and the state after it
+    abbrev wrote : List ℕ
+    wrote = bytesOf (t .pool) (st .reading) (getD (b .counts) (p .place) 0) c
+
+    abbrev d : Deed
+    d = does bx (o .process) (doing .behind) (doing .statement)
+
+    abbrev counted : List ℕ
+    counted = set (b .counts) (p .place) (countedBy (getD (b .counts) (p .place) 0) c)
+
+    abbrev after-it : State
+    after-it =
+        record {
+          processes = set (st .processes) low (moved (t .cells) (st .levels) p .process);
+          reading = st .reading;
+          levels = st .levels;
+          paused = pausedBy (st .paused) c;
+        }
+
+    done-answers : Answers t (record { box = boxed after-it counted; reply = outcome (outcomeOf (length wrote) c) wrote })
+        (record {
+          box = record { processes = o .put (d .process); reading = st .reading; levels = st .levels; paused = d .paused };
+          reply = outcome (d .says) (d .bytes);
+        })
+    done-answers =
+        let z : 0 + low ≡ low = omega arith in
+        record {
+          reply = ap₂ outcome (doing .says) (doing .bytes);
+          after = o .put (d .process);
+          box = ap (λ (u : Bool). record { processes = o .put (d .process); reading = st .reading; levels = st .levels; paused = u }) (sym (doing .paused));
+          alike = o .placed counted
+              (λ j n. counts-apart t s k a (b .counts) low (p .place) (countedBy (getD (b .counts) (p .place) 0) c) (held .fine .sits .low) live j (λ g. n (rw z g)))
+              (moved (t .cells) (st .levels) p .process) (d .process)
+              (subst (λ (m : Moved). Alike t (0 + low) counted (m .process) (d .process)) (sym moved-is) (rw z (doing .process)));
+          many = length-set (b .counts) (p .place) (countedBy (getD (b .counts) (p .place) 0) c) ∙ many;
+        }
+
+    by-room : (u : Bool) → Answers t
+        (record {
+          box = boxed (cond u (record { state = after-it; outcome = outcomeOf (length wrote) c }) (unaltered st (Refused SmallBuffer)) .state) (cond u counted (b .counts));
+          reply = outcome (cond u (record { state = after-it; outcome = outcomeOf (length wrote) c }) (unaltered st (Refused SmallBuffer)) .outcome) (cond u wrote []);
+        })
+        (cond u
+        (record {
+          box = record { processes = o .put (d .process); reading = st .reading; levels = st .levels; paused = d .paused };
+          reply = outcome (d .says) (d .bytes);
+        })
+        (record { box = bx; reply = outcome (Refused SmallBuffer) [] }))
+    by-room true = done-answers
+    by-room false = record { reply = refl; after = qs; box = refl; alike = al; many = many }
+
+    one-answers : (room : ℕ) → Drains room
+    unfolding calls.called drained draining.does countsAfter stateAfter writes script.called script.drained
+    one-answers room = rw (e, lt-ltb low processLimit there, is-found, o .turns (doing .statement) (doing .behind) next-is) (by-room (ltb 127 room))
+
+  pub drain-answers : (room : ℕ) → Drains room
+  drain-answers room = go (turned t (b .counts) bx 0 (st .processes) qs al)
+    where
+      go : Turned t (b .counts) bx 0 (st .processes) qs → Drains room
+      go (quiet l n) = quiet-answers room l n
+      go (one low e o) = one-answers low e o room

@@ -1,0 +1,65 @@
+-- An event is taken only when no process is ready, and then it acts on every wait. Assumes nothing.
+use mathlib.Core.Path.{_≡_, refl, sym}
+use mathlib.Core.Bool.{true, false, cond, Bool, _||_}
+use mathlib.Core.List.{map}
+use lib.Dec.{ltb}
+use Rattle.reader.proofs.Tests.{true-is-false, by-cases}
+use Rattle.language.specs.Script.{Script}
+use Rattle.process.specs.declared.Copies.{Copies}
+use Rattle.process.specs.declared.Refusal.{Refusal}
+use Rattle.process.specs.declared.Refusal.the-variants.{Busy, BadReading, NoSuchSignal}
+use Rattle.process.specs.declared.Received.the-variants as received
+use Rattle.process.specs.Events.{readingRight}
+use Rattle.outcome.specs.declared.Outcome.the-variants.{Refused}
+use Rattle.runner.specs.Calls as calls
+use Rattle.runner.specs.Calls.{Call, start, tick, byte, reading, level, drain}
+use Rattle.bounded.specs.Replies.{took, isEvent}
+use Rattle.running.specs.Running.{Box, busy, Called, refuses, takesEvent, waiting, called}
+use Rattle.running.specs.Waits.{eventOn}
+use Rattle.running.specs.Called.{EventTaken}
+
+module _ (b : Box) (q : Call) where
+  -- what is claimed of an answer
+  record Fair (r : Called) : Type 0 where
+    only : took (r .reply) ≡ true → busy b ≡ false
+    unaltered : took (r .reply) ≡ false → r .box ≡ b
+    acts : took (r .reply) ≡ true → r .box .processes ≡ map (waiting (eventOn q)) (b .processes)
+
+  refused-fair : (r : Refusal) → Fair (refuses b r)
+  unfolding took
+  refused-fair r = record { only = λ e. true-is-false (sym e); unaltered = λ e. refl; acts = λ e. true-is-false (sym e) }
+
+  taken-fair : (c : Box) → busy b ≡ false → c .processes ≡ map (waiting (eventOn q)) (b .processes) → Fair (takesEvent c)
+  unfolding took
+  taken-fair c n e = record { only = λ u. n; unaltered = λ u. true-is-false u; acts = λ u. e }
+
+  unless-busy : (r : Called) → (busy b ≡ false → Fair r) → Fair (cond (busy b) (refuses b Busy) r)
+  unless-busy r f = by-cases Fair (busy b) (refuses b Busy) r (λ u. refused-fair Busy) f
+
+  byte-fair : (c : Box) (n : Copies) → c .processes ≡ map (waiting (eventOn q)) (b .processes) →
+      Fair (cond (busy b) (record { box = b; reply = calls.received (received.Refused Busy) }) (record { box = c; reply = calls.received (received.Took n) }))
+  unfolding took
+  byte-fair c n e =
+      by-cases Fair (busy b) _ _ (λ u. record { only = λ v. true-is-false (sym v); unaltered = λ v. refl; acts = λ v. true-is-false (sym v) })
+      (λ u. record { only = λ v. u; unaltered = λ v. true-is-false v; acts = λ v. e })
+
+fair : (s : Script) (b : Box) (q : Call) → isEvent q ≡ true → Fair b q (called s q b)
+unfolding called
+fair s b start e = true-is-false (sym e)
+fair s b tick e = unless-busy b tick _ (λ u. taken-fair b tick _ u refl)
+fair s b (byte x) e = byte-fair b (byte x) _ _ refl
+fair s b (reading r) e =
+    unless-busy b (reading r) _
+    (λ u. by-cases (Fair b (reading r)) (readingRight r) _ _ (λ v. taken-fair b (reading r) _ u refl) (λ v. refused-fair b (reading r) BadReading))
+fair s b (level n is) e =
+    unless-busy b (level n is) _
+    (λ u. by-cases (Fair b (level n is)) (ltb n 5) _ _ (λ v. taken-fair b (level n is) _ u refl) (λ v. refused-fair b (level n is) NoSuchSignal))
+fair s b (drain room) e = true-is-false (sym e)
+
+pub event-taken : (s : Script) (b : Box) (q : Call) → isEvent q ≡ true → EventTaken s b q
+event-taken s b q e = let f = fair s b q e in record { only = f .only; unaltered = f .unaltered; acts = f .acts }
+
+-- neither of two tests holds
+pub neither : (u v : Bool) → (u || v) ≡ false → (u ≡ false) × (v ≡ false)
+neither true v e = true-is-false e
+neither false v e = (refl, e)

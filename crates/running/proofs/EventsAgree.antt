@@ -1,0 +1,164 @@
+-- A start and each event are answered alike by the runner and by the script, and leave boxes that are alike. Assumes nothing.
+use mathlib.Core.Path.{_≡_, refl, ap, _∙_}
+use mathlib.Core.Bool.{Bool, true, false, cond, _||_}
+use mathlib.Core.List.{List, map}
+use Prim.Native.Nat.{ℕ}
+use native.Mathlib.Omega.{arith}
+use lib.Dec.{ltb, leb, eqb}
+use lib.ListN.{length, set, take, length-replicate}
+use borrow.Author.Tests.{le-leb}
+use Rattle.reader.proofs.Tests.{both}
+use Rattle.language.specs.declared.Heads.{Heads}
+use Rattle.language.specs.declared.Table.{Table}
+use Rattle.language.specs.Limits.{linesLimit, omitLimit}
+use Rattle.language.specs.Script.{unset, Settings, Script}
+use Rattle.language.specs.Script as scripts
+use Rattle.running.specs.Joined.{done}
+use Rattle.language.specs.Cell.{level}
+use Rattle.language.specs.Table.{settingsOf, scriptOf}
+use Rattle.language.specs.Draft.{refused}
+use Rattle.accepted.specs.Accepted.{tableRight}
+use Rattle.process.specs.declared.Reading.{Reading}
+use Rattle.process.specs.declared.Process.{Process}
+use Rattle.process.specs.declared.State.{State}
+use Rattle.process.specs.declared.Refusal.{Refusal}
+use Rattle.process.specs.declared.Refusal.the-variants.{Busy, BadReading, NoSuchSignal}
+use Rattle.process.specs.declared.Received.the-variants as received
+use Rattle.process.specs.declared.Event.{Event}
+use Rattle.process.specs.Waiting.{ticked, tickedWait, byteTaken, byteWait, readingTaken, readingWait, levelTaken, levelWait}
+use Rattle.process.specs.Events as events
+use Rattle.process.specs.Events.{busy, took, withProcesses, tickEvent, readingRight, readingEvent, levelEvent}
+use Rattle.recording.specs.Recording.{oneOf, copies}
+use Rattle.receiving.specs.Receiving.{rangesRight, answeredWith, byteEvent}
+use Rattle.outcome.specs.declared.Outcome.the-variants.{Refused}
+use Rattle.starting.specs.Starting.{startState, startEvent, startCounts}
+use Rattle.runner.specs.Calls as calls
+use Rattle.runner.specs.Calls.{Box, start, tick, reading, Called, answeredBy, receivedBy, startCall}
+use Rattle.bounded.specs.Demand3.{endOf}
+use Rattle.bounded.proofs.Several.{every-right}
+use Rattle.bounded.proofs.Calling.{All}
+use Rattle.running.specs.Running as script
+use Rattle.running.specs.Running.{times, timesBy, started}
+use Rattle.running.proofs.Alike.{tick-waits, byte-waits, reading-waits, level-waits}
+use Rattle.running.proofs.Turns.{Alikes, busy-alike, event-alike}
+use Rattle.running.proofs.Starts.{Bears, start-alike}
+
+-- the script's box of a state: the same reading, levels and pause, with the script's own processes
+abbrev pub boxOf : State → List script.Process → script.Box
+boxOf s qs = record { processes = qs; reading = s .reading; levels = s .levels; paused = s .paused }
+
+-- a call answered alike, and the boxes after it alike
+pub record Answers (t : Table) (r : Called) (x : script.Called) : Type 0 where
+  pub reply : r .reply ≡ x .reply
+  pub after : List script.Process
+  pub box : x .box ≡ boxOf (r .box .state) after
+  pub alike : Alikes t (r .box .counts) 0 (r .box .state .processes) after
+  pub many : length (r .box .counts) ≡ linesLimit
+
+-- the settings of the heads
+copies-times : (h : Heads) (paused : Bool) (x : ℕ) → copies h paused x ≡ times (settingsOf h) paused x
+unfolding copies times settingsOf
+copies-times h paused x = ap (cond (paused || oneOf (take (h .omits) (h .omit)) x) 0) (go (h .encodes))
+  where
+    go : (u : Bool) → cond u (cond (eqb (h .encode) x) 2 1) 1 ≡ timesBy (cond u (scripts.byte (h .encode)) unset) x
+    go true = unfold timesBy in refl
+    go false = unfold timesBy in refl
+
+module _ (t : Table) (s : Script) (k : ℕ) (a : Bears t s k) (b : Box) where
+  pub start-answers : (y : script.Box) → Answers t (calls.called tableRight t start b) (script.called s start y)
+  unfolding calls.called startCall startEvent startCounts script.called startState started
+  start-answers y = rw (a .fits .started) (record {
+    reply = refl;
+    after = map script.begins (done (s .body));
+    box = refl;
+    alike = start-alike t s k a;
+    many = length-replicate {A = ℕ} linesLimit 0;
+  })
+
+module _ (t : Table) (s : Script) (k : ℕ) (a : Bears t s k) (b : Box) (f : ℕ → ℕ) (h : All t k (b .state) f) (qs : List script.Process)
+    (al : Alikes t (b .counts) 0 (b .state .processes) qs) (many : length (b .counts) ≡ linesLimit) where
+  abbrev hs : Heads
+  hs = t .heads
+
+  abbrev st : State
+  st = b .state
+
+  abbrev bx : script.Box
+  bx = boxOf st qs
+
+  pub busy-same : busy st ≡ script.busy bx
+  unfolding busy script.busy
+  busy-same = busy-alike t (b .counts) 0 (st .processes) qs al
+
+  -- ---- events
+
+  stays : (r : Refusal) → Answers t (answeredBy (b .counts) (events.refused st r)) (script.refuses bx r)
+  stays r = record { reply = refl; after = qs; box = refl; alike = al; many = many }
+
+  takes : (e : State) (rs : List script.Process) → Alikes t (b .counts) 0 (e .processes) rs → Answers t (answeredBy (b .counts) (took e)) (script.takesEvent (boxOf e rs))
+  takes e rs z = record { reply = refl; after = rs; box = refl; alike = z; many = many }
+
+  by-test : (u : Bool) (e g : Event) (x y : script.Called) → Answers t (answeredBy (b .counts) e) x → Answers t (answeredBy (b .counts) g) y →
+      Answers t (answeredBy (b .counts) (cond u e g)) (cond u x y)
+  by-test true e g x y p q = p
+  by-test false e g x y p q = q
+
+  unless-busy : (e : Event) (x : script.Called) → Answers t (answeredBy (b .counts) e) x →
+      Answers t (answeredBy (b .counts) (cond (busy st) (events.refused st Busy) e)) (cond (script.busy bx) (script.refuses bx Busy) x)
+  unless-busy e x p = rw busy-same (by-test (script.busy bx) (events.refused st Busy) e (script.refuses bx Busy) x (stays Busy) p)
+
+  pub tick-answers : Answers t (calls.called tableRight t tick b) (script.called s tick bx)
+  unfolding calls.called script.called tickEvent
+  tick-answers = unless-busy _ _ (takes (withProcesses st (map ticked (st .processes))) _ (event-alike t (b .counts) tickedWait script.ticked (λ i e. refl)
+      (λ j i w v z. tick-waits (t .cells) (t .pool) (endOf hs j) (a .fits .sound j .own .inside) i w v z) 0 (st .processes) qs al))
+
+  pub reading-answers : (r : Reading) → Answers t (calls.called tableRight t (reading r) b) (script.called s (reading r) bx)
+  unfolding calls.called script.called readingEvent
+  reading-answers r =
+      unless-busy _ _ (by-test (readingRight r) _ _ _ _
+      (takes (record { processes = map (readingTaken r) (st .processes); reading = r; levels = st .levels; paused = st .paused }) _
+      (event-alike t (b .counts) (readingWait r) (script.read r) (λ i e. refl)
+      (λ j i w v z. reading-waits (t .cells) (t .pool) (endOf hs j) (a .fits .sound j .own .inside) r i w v z) 0 (st .processes) qs al))
+      (stays BadReading))
+
+  pub level-answers : (n : ℕ) (on : Bool) → Answers t (calls.called tableRight t (calls.level n on) b) (script.called s (calls.level n on) bx)
+  unfolding calls.called script.called levelEvent
+  level-answers n on =
+      unless-busy _ _ (by-test (ltb n 5) _ _ _ _
+      (takes (record { processes = map (levelTaken (level n on)) (st .processes); reading = st .reading; levels = set (st .levels) n on; paused = st .paused }) _
+      (event-alike t (b .counts) (levelWait (level n on)) (script.levelled n on) (λ i e. refl)
+      (λ j i w v z. level-waits (t .cells) (t .pool) (endOf hs j) (a .fits .sound j .own .inside) n on i w v z) 0 (st .processes) qs al))
+      (stays NoSuchSignal))
+
+  ranges-right : rangesRight hs st ≡ true
+  unfolding rangesRight
+  ranges-right =
+      both (leb (hs .omits) omitLimit) _ (le-leb (hs .omits) omitLimit (a .fits .omitted))
+      (every-right (st .processes) (λ i l. h .every i (omega (arith, h .eight)) .right))
+
+  settings-same : settingsOf hs ≡ s .settings
+  unfolding scriptOf
+  settings-same = ap (λ (x : Script). x .settings) (a .script)
+
+  pub byte-answers : (x : ℕ) → Answers t (calls.called tableRight t (calls.byte x) b) (script.called s (calls.byte x) bx)
+  unfolding calls.called script.called byteEvent
+  byte-answers x = rw (ranges-right, busy-same) (go (script.busy bx))
+    where
+      took-byte : Answers t (receivedBy (b .counts) (answeredWith (withProcesses st (map (byteTaken (t .pool) x) (st .processes))) (received.Took (record { count = copies hs (st .paused) x }))))
+          (record { box = script.having (script.allWaiting (script.gets x) bx) bx; reply = calls.received (received.Took (record { count = times (s .settings) (st .paused) x })) })
+      took-byte = record {
+        reply = ap (λ (n : ℕ). calls.received (received.Took (record { count = n }))) (copies-times hs (st .paused) x ∙ ap (λ (g : Settings). times g (st .paused) x) settings-same);
+        after = map (script.waiting (script.gets x)) qs;
+        box = refl;
+        alike = event-alike t (b .counts) (byteWait (t .pool) x) (script.gets x) (λ i e. refl)
+            (λ j i w v z. byte-waits (t .cells) (t .pool) (endOf hs j) (a .fits .sound j .own .inside) x i w v z) 0 (st .processes) qs al;
+        many = many;
+      }
+
+      go : (u : Bool) → Answers t
+          (receivedBy (b .counts) (cond u (answeredWith st (received.Refused Busy))
+          (answeredWith (withProcesses st (map (byteTaken (t .pool) x) (st .processes))) (received.Took (record { count = copies hs (st .paused) x })))))
+          (cond u (record { box = bx; reply = calls.received (received.Refused Busy) })
+          (record { box = script.having (script.allWaiting (script.gets x) bx) bx; reply = calls.received (received.Took (record { count = times (s .settings) (st .paused) x })) }))
+      go true = record { reply = refl; after = qs; box = refl; alike = al; many = many }
+      go false = took-byte
