@@ -36,7 +36,7 @@ record Ran (text : List ℕ) (qs : List Call) (rs : List Reply) : Type 0 where
 runs-so : (text : List ℕ) (qs : List Call) (rs : List Reply) → Ran text qs rs → Runs text qs rs
 runs-so text qs rs r =
     let same = runs-script {text = text} {t = compiled text .table} {k = r .stretch} (record { bytes = r .bytes; result = r .result }) in
-    let y : script.Box = script.started (same .body) in
+    let y : script.Box = script.started (same .script) in
     record {
       script = r .replied;
       runner = λ b. same .answers b y qs ∙ ap (λ (x : Result). repliesOf x y qs) (sym (same .said)) ∙ r .replied y;

@@ -13,6 +13,7 @@ use Rattle.process.specs.declared.State.{State}
 use Rattle.runner.specs.Calls as runner
 use Rattle.runner.specs.Calls.{Call}
 use Rattle.bounded.specs.Replies.{called, isEvent}
+use Rattle.running.specs.Running as running
 use Rattle.running.specs.Running.{Process, Box}
 use Rattle.running.specs.Joins.{Joins}
 use Rattle.running.specs.Waits.{WaitsBegin, WaitsEnd}
@@ -34,7 +35,7 @@ pub record Means : Type 0 where
   -- "`#LOOP n` .. `EVER`, 0 or nothing is forever. `#END` closes the innermost loop."
   pub loops : LoopsPass
   -- "An event is taken only when no process is ready."; a received byte "counts for waits in every case"
-  pub taken : (s : Script) (b : Box) (q : Call) → isEvent q ≡ true → script.EventTaken s b q
+  pub taken : (s : Script) (b : Box) (q : Call) → isEvent q ≡ true → script.EventTaken b q (running.called s q b)
   -- "A drain does one statement of the lowest-numbered ready process and says what it sent, recorded or switched; or says quiet exactly when none is ready."
   pub drained : (s : Script) (b : Box) (room : ℕ) (wide : 127 < room) → script.OneStatement s b room wide
   -- "A received byte is recorded once; not at all if paused or in OMIT; in all other cases twice if it is the ENCODE byte."

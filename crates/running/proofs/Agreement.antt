@@ -86,4 +86,4 @@ agreement {t = t} {k = k} c s e b y qs = starts-alike t s k (bears c s e) b y qs
 pub runs-script : {text : List ℕ} {t : Table} {k : ℕ} → Compiles text t k → RunsScript text t
 runs-script {text} {t} {k} c =
     let e : scriptFrom text ≡ accepted (scriptOf t) = said-by (scriptFrom text) c refl in
-    record { body = scriptOf t; said = e; answers = agreement c (scriptOf t) e }
+    record { script = scriptOf t; said = e; answers = agreement c (scriptOf t) e }

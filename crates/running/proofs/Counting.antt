@@ -16,8 +16,7 @@ use Rattle.record.specs.Logging.{nextCount}
 use Rattle.runner.specs.Calls.{Call, start, tick, byte, reading, level, drain, outcome}
 use Rattle.running.specs.Running.{Loop, Wait, Process, Box, Next, idle, statement, isStatement, next, busy, closed, logged, does, Turn, none, did, later, takes, turn, Called, drained, waiting, begins, started, called}
 use Rattle.running.specs.Called.{boxAfter, isLog, logsNext, logsIn, logs, loggedIn, isStart, process, CountsOwn}
-use Rattle.running.proofs.Events.{neither}
-use Rattle.running.proofs.Drains.{of, after, drained-is}
+use Rattle.running.proofs.Drains.{neither, of, after, drained-is}
 
 -- ---- an event counts nothing
 

@@ -1,23 +1,27 @@
 -- A drain does one statement of the lowest-numbered ready process, or says quiet. Assumes nothing.
 use mathlib.Core.Path.{_≡_, refl, sym, ap, _∙_}
-use mathlib.Core.Bool.{Bool, true, false}
+use mathlib.Core.Bool.{Bool, true, false, _||_}
 use mathlib.Core.List.{List, [], _∷_, _++_}
-use Prim.Native.Nat.{ℕ, _<_, zero, suc}
+use Prim.Native.Nat.{ℕ, zero, suc, _<_}
+use lib.Dec.{ltb}
+use lib.ListN.{getD}
 use borrow.Author.Tests.{lt-ltb}
 use Rattle.reader.proofs.Tests.{true-is-false, by-cases}
 use Rattle.language.specs.Script.{Statement, send, loop, end, waitTime, waitData, waitByte, waitClock, waitSignal, rts, log, fchange, pause, resume, nop, Script}
+use Rattle.process.specs.declared.Refusal.the-variants.{SmallBuffer}
 use Rattle.process.specs.Events.{any}
 use Rattle.outcome.specs.declared.Outcome.the-variants.{Quiet, Refused}
 use Rattle.runner.specs.Calls as calls
 use Rattle.runner.specs.Calls.{drain, outcome}
 use Rattle.bounded.specs.Replies.{did}
 use Rattle.running.specs.Running as script
-use Rattle.running.specs.Running.{Process, Box, Next, idle, statement, isStatement, next, ready, busy, does, none, later, takes, turn, Called, drained, called, Turn, begins}
+use Rattle.running.specs.Running.{Process, Box, Next, idle, statement, isStatement, next, ready, busy, does, Turn, none, later, takes, turn, Called, drained, begins, called}
 use Rattle.running.specs.Called.{HasTurn, SomeTurn, doing, OneStatement, pausedSince}
-use lib.ListN.{getD}
-use Rattle.process.specs.declared.Refusal.the-variants.{SmallBuffer}
-use lib.Dec.{ltb}
-use Rattle.running.proofs.Events.{neither}
+
+-- neither of two tests holds
+pub neither : (u v : Bool) → (u || v) ≡ false → (u ≡ false) × (v ≡ false)
+neither true v e = true-is-false e
+neither false v e = (refl, e)
 
 -- a process that is not ready leaves the turn to those behind it
 not-ready : (n : Next) → isStatement n ≡ false → n ≡ idle
@@ -41,22 +45,12 @@ turns b (r ∷ before) p behind x ss l n =
     rw (not-ready (next r) (neither (ready r) (any ready before) l .0), turns b before p behind x ss (neither (ready r) (any ready before) l .1) n)
 
 -- which one that is
-record Found (ps : List Process) : Type 0 where
-  before : List Process
-  process : Process
-  behind : List Process
-  statement : Statement
-  rest : List Statement
-  parts : ps ≡ before ++ (process ∷ behind)
-  lowest : any ready before ≡ false
-  ready : next process ≡ script.statement statement rest
-
-found-in : (ps : List Process) → any ready ps ≡ true → Found ps
+found-in : (ps : List Process) → any ready ps ≡ true → SomeTurn ps
 unfolding isStatement
 found-in [] e = true-is-false (sym e)
 found-in (p ∷ ps) e = go (next p) refl (found-in ps)
   where
-    go : (n : Next) → next p ≡ n → (any ready ps ≡ true → Found ps) → Found (p ∷ ps)
+    go : (n : Next) → next p ≡ n → (any ready ps ≡ true → SomeTurn ps) → SomeTurn (p ∷ ps)
     go idle n f =
         let r = f (rw n at e) in
         record {
@@ -65,11 +59,16 @@ found-in (p ∷ ps) e = go (next p) refl (found-in ps)
           behind = r .behind;
           statement = r .statement;
           rest = r .rest;
-          parts = ap (λ (l : List Process). p ∷ l) (r .parts);
-          lowest = rw n (r .lowest);
-          ready = r .ready;
+          turn = record { parts = ap (λ (l : List Process). p ∷ l) (r .turn .parts); lowest = rw n (r .turn .lowest); ready = r .turn .ready };
         }
-    go (statement x ss) n f = record { before = []; process = p; behind = ps; statement = x; rest = ss; parts = refl; lowest = refl; ready = n }
+    go (statement x ss) n f = record {
+      before = [];
+      process = p;
+      behind = ps;
+      statement = x;
+      rest = ss;
+      turn = record { parts = refl; lowest = refl; ready = n };
+    }
 
 -- no statement says quiet, and what it says tells what it does to recording
 pub says-so : (b : Box) (p : Process) (ss : List Statement) (x : Statement) →
@@ -91,7 +90,7 @@ says-so b p ss resume = (refl, refl)
 says-so b p ss nop = (refl, refl)
 
 module _ (s : Script) (b : Box) (room : ℕ) (wide : 127 < room) where
-  one-of : (before : List Process) (p : Process) (behind : List Process) (x : Statement) (ss : List Statement) → HasTurn b before p behind x ss →
+  one-of : (before : List Process) (p : Process) (behind : List Process) (x : Statement) (ss : List Statement) → HasTurn (b .processes) before p behind x ss →
       called s (drain room) b ≡ doing b (before ++ (does b p ss x .process ∷ behind)) (does b p ss x)
   unfolding called drained
   one-of before p behind x ss h =
@@ -100,18 +99,9 @@ module _ (s : Script) (b : Box) (room : ℕ) (wide : 127 < room) where
       in
       rw (lt-ltb 127 room wide, t)
 
-  some-of : busy b ≡ true → SomeTurn b
+  some-of : busy b ≡ true → SomeTurn (b .processes)
   unfolding busy
-  some-of e =
-      let f = found-in (b .processes) e in
-      record {
-        before = f .before;
-        process = f .process;
-        behind = f .behind;
-        statement = f .statement;
-        rest = f .rest;
-        turn = record { parts = f .parts; lowest = f .lowest; ready = f .ready };
-      }
+  some-of e = found-in (b .processes) e
 
   quiet-of : busy b ≡ false → called s (drain room) b ≡ record { box = b; reply = outcome Quiet [] }
   unfolding called drained busy

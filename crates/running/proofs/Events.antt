@@ -1,6 +1,6 @@
 -- An event is taken only when no process is ready, and then it acts on every wait. Assumes nothing.
 use mathlib.Core.Path.{_≡_, refl, sym}
-use mathlib.Core.Bool.{true, false, cond, Bool, _||_}
+use mathlib.Core.Bool.{true, false, cond}
 use mathlib.Core.List.{map}
 use lib.Dec.{ltb}
 use Rattle.reader.proofs.Tests.{true-is-false, by-cases}
@@ -19,11 +19,8 @@ use Rattle.running.specs.Waits.{eventOn}
 use Rattle.running.specs.Called.{EventTaken}
 
 module _ (b : Box) (q : Call) where
-  -- what is claimed of an answer
-  record Fair (r : Called) : Type 0 where
-    only : took (r .reply) ≡ true → busy b ≡ false
-    unaltered : took (r .reply) ≡ false → r .box ≡ b
-    acts : took (r .reply) ≡ true → r .box .processes ≡ map (waiting (eventOn q)) (b .processes)
+  abbrev Fair : Called → Type 0
+  Fair = EventTaken b q
 
   refused-fair : (r : Refusal) → Fair (refuses b r)
   unfolding took
@@ -43,23 +40,15 @@ module _ (b : Box) (q : Call) where
       by-cases Fair (busy b) _ _ (λ u. record { only = λ v. true-is-false (sym v); unaltered = λ v. refl; acts = λ v. true-is-false (sym v) })
       (λ u. record { only = λ v. u; unaltered = λ v. true-is-false v; acts = λ v. e })
 
-fair : (s : Script) (b : Box) (q : Call) → isEvent q ≡ true → Fair b q (called s q b)
+pub event-taken : (s : Script) (b : Box) (q : Call) → isEvent q ≡ true → EventTaken b q (called s q b)
 unfolding called
-fair s b start e = true-is-false (sym e)
-fair s b tick e = unless-busy b tick _ (λ u. taken-fair b tick _ u refl)
-fair s b (byte x) e = byte-fair b (byte x) _ _ refl
-fair s b (reading r) e =
+event-taken s b start e = true-is-false (sym e)
+event-taken s b tick e = unless-busy b tick _ (λ u. taken-fair b tick _ u refl)
+event-taken s b (byte x) e = byte-fair b (byte x) _ _ refl
+event-taken s b (reading r) e =
     unless-busy b (reading r) _
-    (λ u. by-cases (Fair b (reading r)) (readingRight r) _ _ (λ v. taken-fair b (reading r) _ u refl) (λ v. refused-fair b (reading r) BadReading))
-fair s b (level n is) e =
+    (λ u. by-cases (EventTaken b (reading r)) (readingRight r) _ _ (λ v. taken-fair b (reading r) _ u refl) (λ v. refused-fair b (reading r) BadReading))
+event-taken s b (level n is) e =
     unless-busy b (level n is) _
-    (λ u. by-cases (Fair b (level n is)) (ltb n 5) _ _ (λ v. taken-fair b (level n is) _ u refl) (λ v. refused-fair b (level n is) NoSuchSignal))
-fair s b (drain room) e = true-is-false (sym e)
-
-pub event-taken : (s : Script) (b : Box) (q : Call) → isEvent q ≡ true → EventTaken s b q
-event-taken s b q e = let f = fair s b q e in record { only = f .only; unaltered = f .unaltered; acts = f .acts }
-
--- neither of two tests holds
-pub neither : (u v : Bool) → (u || v) ≡ false → (u ≡ false) × (v ≡ false)
-neither true v e = true-is-false e
-neither false v e = (refl, e)
+    (λ u. by-cases (EventTaken b (level n is)) (ltb n 5) _ _ (λ v. taken-fair b (level n is) _ u refl) (λ v. refused-fair b (level n is) NoSuchSignal))
+event-taken s b (drain room) e = true-is-false (sym e)

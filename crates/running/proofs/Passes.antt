@@ -1,5 +1,5 @@
 -- What a process does in its loops: its lines in their order, the body of LOOP n its n times, that of a forever loop again and again. Assumes nothing.
-use mathlib.Core.Path.{_≡_, refl, ap, _∙_}
+use mathlib.Core.Path.{_≡_, refl, ap, subst, _∙_}
 use mathlib.Core.List.{List, [], _∷_, _++_, append-assoc}
 use Prim.Native.Nat.{ℕ, zero, suc, _-_}
 use native.Mathlib.Omega.{arith}
@@ -7,28 +7,27 @@ use borrow.Author.Tests.{ne-eqb}
 use Rattle.reader.proofs.Tests.{true-is-false}
 use Rattle.language.specs.Script.{Statement, send, loop, end, waitTime, waitData, waitByte, waitClock, waitSignal, rts, log, fchange, pause, resume, nop, stays, shape}
 use Rattle.running.specs.Running.{Loop, Process, Box, statement, nextIn, nextBy, next, forNothing, closed, logged, does}
-use Rattle.running.specs.Passes.{waitOver, DoesAll, stop, step, Comes, DoneAs, timesOver, inLoop, LoopsPass}
+use Rattle.running.specs.Passes.{waitOver, At, Comes, DoneAs, timesOver, inLoop, LoopsPass}
 
 -- ---- one after the other
 
-does-more : {p q r : Process} {l m : List Statement} → DoesAll p l q → DoesAll q m r → DoesAll p (l ++ m) r
-does-more stop d = d
-does-more (step b n c) d = step b n (does-more c d)
-
-comes-more : (p : Process) (l m : List Statement) {ss ts : List Statement} {ls ks : List Loop} (c : Comes p l ss ls) → Comes (c .after) m ts ks → Comes p (l ++ m) ts ks
-comes-more p l m c d = record { after = d .after; did = does-more (c .did) (d .did); coming = d .coming; loops = d .loops; over = d .over }
-
-comes-none : (p : Process) {ss : List Statement} {ls : List Loop} → p .wait ≡ forNothing → p .coming ≡ ss → p .loops ≡ ls → Comes p [] ss ls
-comes-none p w c l = record { after = p; did = stop; coming = c; loops = l; over = w }
+comes-more : (l m ss : List Statement) (ls : List Loop) {ts : List Statement} {ks : List Loop} (p : Process) → Comes l ts ks p → ((q : Process) → At ts ks q → Comes m ss ls q) →
+    Comes (l ++ m) ss ls p
+comes-more [] m ss ls p c f = f p c
+comes-more (s ∷ l) m ss ls p c f = record {
+  behind = c .behind;
+  first = c .first;
+  rest = λ b. comes-more l m ss ls (waitOver (does b p (c .behind) s .process)) (c .rest b) f;
+}
 
 next-is : (p : Process) (s : Statement) (ss : List Statement) → p .wait ≡ forNothing → p .coming ≡ s ∷ ss → next p ≡ statement s ss
 unfolding nextBy nextIn
 next-is p s ss w c = rw (w, c)
 
--- one statement
-comes-one : (b : Box) (p : Process) (s : Statement) (ss : List Statement) {ts : List Statement} {ls : List Loop} → p .wait ≡ forNothing → p .coming ≡ s ∷ ss →
-    does b p ss s .process .coming ≡ ts → does b p ss s .process .loops ≡ ls → Comes p (s ∷ []) ts ls
-comes-one b p s ss w c d l = record { after = waitOver (does b p ss s .process); did = step b (next-is p s ss w c) stop; coming = d; loops = l; over = refl }
+-- one statement, that goes to ts with the loops ls open in every box
+comes-one : (p : Process) (s : Statement) (ss : List Statement) {ts : List Statement} {ls : List Loop} → p .wait ≡ forNothing → p .coming ≡ s ∷ ss →
+    ((b : Box) → (does b p ss s .process .coming ≡ ts) × (does b p ss s .process .loops ≡ ls)) → Comes (s ∷ []) ts ls p
+comes-one p s ss w c to = record { behind = ss; first = next-is p s ss w c; rest = λ b. record { coming = to b .0; loops = to b .1; over = refl } }
 
 -- ---- a statement that is no LOOP and no END
 
@@ -50,17 +49,15 @@ plain-on b p ss resume e = (refl, refl)
 plain-on b p ss nop e = (refl, refl)
 
 plain-done : (s : Statement) → shape s ≡ stays → DoneAs (s ∷ []) (s ∷ [])
-plain-done s e b p ss w c = comes-one b p s ss w c (plain-on b p ss s e .0) (plain-on b p ss s e .1)
+plain-done s e p ss w c = comes-one p s ss w c (λ b. plain-on b p ss s e)
 
 joined-done : (a b l m : List Statement) → DoneAs a l → DoneAs b m → DoneAs (a ++ b) (l ++ m)
-joined-done a b l m f g box p ss w c =
-    let x = f box p (b ++ ss) w (c ∙ append-assoc a b ss) in
-    let y = g box (x .after) ss (x .over) (x .coming) in
-    comes-more p l m x (record { after = y .after; did = y .did; coming = y .coming; loops = y .loops ∙ x .loops; over = y .over })
+joined-done a b l m f g p ss w c =
+    comes-more l m ss (p .loops) p (f p (b ++ ss) w (c ∙ append-assoc a b ss)) (λ q x. subst (λ (ls : List Loop). Comes m ss ls q) (x .loops) (g q ss (x .over) (x .coming)))
 
 -- ---- a loop
 
-module _ (body l : List Statement) (f : DoneAs body l) (b : Box) (ss : List Statement) (ls : List Loop) where
+module _ (body l : List Statement) (f : DoneAs body l) (ss : List Statement) (ls : List Loop) where
   -- the body, its END, and what is behind the loop
   abbrev again : List Statement
   again = body ++ (end ∷ ss)
@@ -70,12 +67,12 @@ module _ (body l : List Statement) (f : DoneAs body l) (b : Box) (ss : List Stat
 
   -- a pass: the body and END, which goes to ts with the loops ks open
   pass : (n : ℕ) (ts : List Statement) (ks : List Loop) → ((x : Process) → (closed x ss (opened n) .coming ≡ ts) × (closed x ss (opened n) .loops ≡ ks)) →
-      (p : Process) → p .wait ≡ forNothing → p .coming ≡ again → p .loops ≡ opened n → Comes p (l ++ (end ∷ [])) ts ks
+      (p : Process) → At again (opened n) p → Comes (l ++ (end ∷ [])) ts ks p
   unfolding does closed
-  pass n ts ks to p w c o =
-      let x = f b p (end ∷ ss) w c in
-      let y : x .after .loops ≡ opened n = x .loops ∙ o in
-      comes-more p l (end ∷ []) x (comes-one b (x .after) end ss (x .over) (x .coming) (rw y (to (x .after) .0)) (rw y (to (x .after) .1)))
+  pass n ts ks to p x =
+      comes-more l (end ∷ []) ts ks p (f p (end ∷ ss) (x .over) (x .coming)) (λ q y.
+      let o : q .loops ≡ opened n = y .loops ∙ x .loops in
+      comes-one q end ss (y .over) (y .coming) (λ b. rw o (to q)))
 
   last-to : (x : Process) → (closed x ss (opened 1) .coming ≡ ss) × (closed x ss (opened 1) .loops ≡ ls)
   unfolding closed
@@ -91,40 +88,34 @@ module _ (body l : List Statement) (f : DoneAs body l) (b : Box) (ss : List Stat
   unfolding closed
   ever-to x = (refl, refl)
 
-  all-passes : (n : ℕ) (p : Process) → p .wait ≡ forNothing → p .coming ≡ again → p .loops ≡ opened (suc n) → Comes p (timesOver (suc n) (l ++ (end ∷ []))) ss ls
+  all-passes : (n : ℕ) (p : Process) → At again (opened (suc n)) p → Comes (timesOver (suc n) (l ++ (end ∷ []))) ss ls p
   unfolding timesOver
-  all-passes zero p w c o =
-      let x = pass 1 ss ls last-to p w c o in
-      comes-more p (l ++ (end ∷ [])) [] x (comes-none (x .after) (x .over) (x .coming) (x .loops))
-  all-passes (suc n) p w c o =
-      let x = pass (suc (suc n)) again (opened (suc n)) (next-to n) p w c o in
-      comes-more p (l ++ (end ∷ [])) (timesOver (suc n) (l ++ (end ∷ []))) x (all-passes n (x .after) (x .over) (x .coming) (x .loops))
+  all-passes zero p x = comes-more (l ++ (end ∷ [])) [] ss ls p (pass 1 ss ls last-to p x) (λ q y. y)
+  all-passes (suc n) p x =
+      comes-more (l ++ (end ∷ [])) (timesOver (suc n) (l ++ (end ∷ []))) ss ls p (pass (suc (suc n)) again (opened (suc n)) (next-to n) p x) (λ q y. all-passes n q y)
 
-  ever-passes : (n : ℕ) (p : Process) → p .wait ≡ forNothing → p .coming ≡ again → p .loops ≡ opened 0 → Comes p (timesOver n (l ++ (end ∷ []))) again (opened 0)
+  ever-passes : (n : ℕ) (p : Process) → At again (opened 0) p → Comes (timesOver n (l ++ (end ∷ []))) again (opened 0) p
   unfolding timesOver
-  ever-passes zero p w c o = comes-none p w c o
-  ever-passes (suc n) p w c o =
-      let x = pass 0 again (opened 0) ever-to p w c o in
-      comes-more p (l ++ (end ∷ [])) (timesOver n (l ++ (end ∷ []))) x (ever-passes n (x .after) (x .over) (x .coming) (x .loops))
+  ever-passes zero p x = x
+  ever-passes (suc n) p x =
+      comes-more (l ++ (end ∷ [])) (timesOver n (l ++ (end ∷ []))) again (opened 0) p (pass 0 again (opened 0) ever-to p x) (λ q y. ever-passes n q y)
 
 -- LOOP n opens the loop
-opens : (n : ℕ) (body : List Statement) (b : Box) (p : Process) (ss : List Statement) → p .wait ≡ forNothing → p .coming ≡ inLoop n body ++ ss →
-    Comes p (loop n ∷ []) (body ++ (end ∷ ss)) (record { left = n; body = body ++ (end ∷ ss) } ∷ p .loops)
+opens : (n : ℕ) (body : List Statement) (p : Process) (ss : List Statement) → p .wait ≡ forNothing → p .coming ≡ inLoop n body ++ ss →
+    Comes (loop n ∷ []) (body ++ (end ∷ ss)) (record { left = n; body = body ++ (end ∷ ss) } ∷ p .loops) p
 unfolding does
-opens n body b p ss w c =
+opens n body p ss w c =
     let e : (body ++ (end ∷ [])) ++ ss ≡ body ++ (end ∷ ss) = append-assoc body (end ∷ []) ss in
-    comes-one b p (loop n) (body ++ (end ∷ ss)) w (c ∙ ap (λ (ts : List Statement). loop n ∷ ts) e) refl refl
+    comes-one p (loop n) (body ++ (end ∷ ss)) w (c ∙ ap (λ (ts : List Statement). loop n ∷ ts) e) (λ b. (refl, refl))
 
 -- THE THEOREM
 pub loops-pass : LoopsPass
 loops-pass = record {
-  none = λ b p ss w c. comes-none p w c refl;
+  none = λ p ss w c. record { coming = c; loops = refl; over = w };
   plain = plain-done;
   joined = joined-done;
-  passes = λ n body l f b p ss w c.
-      let x = opens (suc n) body b p ss w c in
-      comes-more p (loop (suc n) ∷ []) (timesOver (suc n) (l ++ (end ∷ []))) x (all-passes body l f b ss (p .loops) n (x .after) (x .over) (x .coming) (x .loops));
-  forever = λ n body l f b p ss w c.
-      let x = opens 0 body b p ss w c in
-      comes-more p (loop 0 ∷ []) (timesOver n (l ++ (end ∷ []))) x (ever-passes body l f b ss (p .loops) n (x .after) (x .over) (x .coming) (x .loops));
+  passes = λ n body l f p ss w c.
+      comes-more (loop (suc n) ∷ []) (timesOver (suc n) (l ++ (end ∷ []))) ss (p .loops) p (opens (suc n) body p ss w c) (λ q x. all-passes body l f ss (p .loops) n q x);
+  forever = λ n body l f p ss w c.
+      comes-more (loop 0 ∷ []) (timesOver n (l ++ (end ∷ []))) (body ++ (end ∷ ss)) (record { left = 0; body = body ++ (end ∷ ss) } ∷ p .loops) p (opens 0 body p ss w c) (λ q x. ever-passes body l f ss (p .loops) n q x);
 }

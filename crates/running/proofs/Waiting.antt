@@ -12,8 +12,8 @@ use Rattle.running.specs.Running.{Wait, forNothing, Process, Box, ready,
 use Rattle.running.specs.Waits.{eventOn, since}
 use Rattle.running.specs.Called.{process, boxAfter, isStart, takenIn, waitsOn, WaitsThrough}
 use Rattle.running.proofs.DataWaits.{nothing-stays}
-use Rattle.running.proofs.Events.{event-taken, neither}
-use Rattle.running.proofs.Drains.{of, drain-leaves}
+use Rattle.running.proofs.Events.{event-taken}
+use Rattle.running.proofs.Drains.{neither, of, drain-leaves}
 
 -- process k of the processes that an event acts on
 acts-on : (f : Wait → Wait) → f forNothing ≡ forNothing → (ps : List Process) (k : ℕ) → of k (map (waiting f) ps) ≡ waiting f (of k ps)

@@ -55,10 +55,10 @@ waitsOn s k b (q ∷ qs) = cond (ready (process k b)) false (waitsOn s k (called
 
 -- "An event is taken only when no process is ready." One that is not taken alters nothing; one that is acts on the wait of every process, and on nothing
 -- else of it. A byte too, however often it is recorded: "It counts for waits in every case."
-pub record EventTaken (s : Script) (b : Box) (q : Call) : Type 0 where
-  pub only : took (called s q b .reply) ≡ true → busy b ≡ false
-  pub unaltered : took (called s q b .reply) ≡ false → called s q b .box ≡ b
-  pub acts : took (called s q b .reply) ≡ true → called s q b .box .processes ≡ map (waiting (eventOn q)) (b .processes)
+pub record EventTaken (b : Box) (q : Call) (r : Called) : Type 0 where
+  pub only : took (r .reply) ≡ true → busy b ≡ false
+  pub unaltered : took (r .reply) ≡ false → r .box ≡ b
+  pub acts : took (r .reply) ≡ true → r .box .processes ≡ map (waiting (eventOn q)) (b .processes)
 
 -- "since it began": through any calls but a start, a process that is not ready has its wait changed by the events that are taken, one after the other, and
 -- stays otherwise as it was, whatever the other processes do
@@ -67,20 +67,20 @@ pub record WaitsThrough (s : Script) (b : Box) (k : ℕ) (qs : List Call) : Type
 
 -- ---- drains
 
--- process p has its turn: those before it are not ready, and it is, with the statement x and ss behind it
-pub record HasTurn (b : Box) (before : List Process) (p : Process) (behind : List Process) (x : Statement) (ss : List Statement) : Type 0 where
-  pub parts : b .processes ≡ before ++ (p ∷ behind)
+-- process p of some has its turn: those before it are not ready, and it is, with the statement x and ss behind it
+pub record HasTurn (ps before : List Process) (p : Process) (behind : List Process) (x : Statement) (ss : List Statement) : Type 0 where
+  pub parts : ps ≡ before ++ (p ∷ behind)
   pub lowest : any ready before ≡ false
   pub ready : next p ≡ statement x ss
 
--- some process has
-pub record SomeTurn (b : Box) : Type 0 where
+-- one of them has
+pub record SomeTurn (ps : List Process) : Type 0 where
   pub before : List Process
   pub process : Process
   pub behind : List Process
   pub statement : Statement
   pub rest : List Statement
-  pub turn : HasTurn b before process behind statement rest
+  pub turn : HasTurn ps before process behind statement rest
 
 -- the box and the reply after a statement that makes these processes
 abbrev pub doing : Box → List Process → Deed → Called
@@ -89,14 +89,14 @@ doing b ps d = record { box = record { processes = ps; reading = b .reading; lev
 -- "A drain does one statement of the lowest-numbered ready process": the other processes stay as they are. It "says what it sent, recorded": all bytes of
 -- the statement and no other, and of LOG the record of its own text with its own count. It "says quiet exactly when none is ready", and alters nothing then
 pub record OneStatement (s : Script) (b : Box) (room : ℕ) (wide : 127 < room) : Type 0 where
-  pub one : (before : List Process) (p : Process) (behind : List Process) (x : Statement) (ss : List Statement) → HasTurn b before p behind x ss →
+  pub one : (before : List Process) (p : Process) (behind : List Process) (x : Statement) (ss : List Statement) → HasTurn (b .processes) before p behind x ss →
       called s (drain room) b ≡ doing b (before ++ (does b p ss x .process ∷ behind)) (does b p ss x)
-  pub sends : (before : List Process) (p : Process) (behind : List Process) (bs : List ℕ) (ss : List Statement) → HasTurn b before p behind (send bs) ss →
+  pub sends : (before : List Process) (p : Process) (behind : List Process) (bs : List ℕ) (ss : List Statement) → HasTurn (b .processes) before p behind (send bs) ss →
       called s (drain room) b .reply ≡ outcome (Sent (record { bytes = length bs })) bs
-  pub records : (before : List Process) (p : Process) (behind : List Process) (text : List ℕ) (ss : List Statement) → HasTurn b before p behind (log text) ss →
+  pub records : (before : List Process) (p : Process) (behind : List Process) (text : List ℕ) (ss : List Statement) → HasTurn (b .processes) before p behind (log text) ss →
       called s (drain room) b .reply
       ≡ outcome (Recorded (record { bytes = length (recordOf (b .reading) (p .counts (length ss)) text) })) (recordOf (b .reading) (p .counts (length ss)) text)
-  pub some : busy b ≡ true → SomeTurn b
+  pub some : busy b ≡ true → SomeTurn (b .processes)
   pub quiet : busy b ≡ false → called s (drain room) b ≡ record { box = b; reply = outcome Quiet [] }
   pub only : called s (drain room) b .reply ≡ outcome Quiet [] → busy b ≡ false
 
@@ -115,10 +115,10 @@ pausedSince Plain p = p
 pausedSince (Refused r) p = p
 
 -- and after any reply
-abbrev pub pausedBy : Reply → Bool → Bool
-pausedBy (event a) p = p
-pausedBy (calls.received a) p = p
-pausedBy (outcome o bytes) p = pausedSince o p
+abbrev pub pausedSaid : Reply → Bool → Bool
+pausedSaid (event a) p = p
+pausedSaid (calls.received a) p = p
+pausedSaid (outcome o bytes) p = pausedSince o p
 
 -- "PAUSE and RESUME act from the next byte"; a start begins unpaused
 unfoldable pub pausedAfter : Call → Reply → Bool → Bool
@@ -127,7 +127,7 @@ pausedAfter tick r p = p
 pausedAfter (byte x) r p = p
 pausedAfter (reading x) r p = p
 pausedAfter (level n on) r p = p
-pausedAfter (drain room) r p = pausedBy r p
+pausedAfter (drain room) r p = pausedSaid r p
 
 -- the replies to some calls say whether it is paused after them
 unfoldable pub pausedThen : Script → Box → List Call → Bool → Bool

@@ -10,23 +10,26 @@ use Rattle.running.specs.Running.{Loop, Process, Box, statement, next, f
 abbrev pub waitOver : Process → Process
 waitOver p = waiting (λ w. forNothing) p
 
--- a process does some statements, one after the other, in whatever box; each wait is over before the next
-pub data DoesAll : Process → List Statement → Process → Type 0 where
-  stop : {p : Process} → DoesAll p [] p
-  step : {p q : Process} {s : Statement} {ss l : List Statement} (b : Box) → next p ≡ statement s ss → DoesAll (waitOver (does b p ss s .process)) l q →
-      DoesAll p (s ∷ l) q
+-- it has these statements to come, with these loops open, and waits for nothing
+pub record At (ss : List Statement) (ls : List Loop) (p : Process) : Type 0 where
+  pub coming : p .coming ≡ ss
+  pub loops : p .loops ≡ ls
+  pub over : p .wait ≡ forNothing
 
--- it does the statements l, and then has ss to come, with the loops ls open
-pub record Comes (p : Process) (l ss : List Statement) (ls : List Loop) : Type 0 where
-  pub after : Process
-  pub did : DoesAll p l after
-  pub coming : after .coming ≡ ss
-  pub loops : after .loops ≡ ls
-  pub over : after .wait ≡ forNothing
+-- its next statement is s, and behind it, whatever the box holds and once its wait is over, the rest is as claimed
+pub record Step (s : Statement) (claim : Process → Type 0) (p : Process) : Type 0 where
+  pub behind : List Statement
+  pub first : next p ≡ statement s behind
+  pub rest : (b : Box) → claim (waitOver (does b p behind s .process))
+
+-- it does the statements l, one after the other, and then has ss to come, with the loops ls open
+abbrev pub Comes : List Statement → List Statement → List Loop → Process → Type 0
+Comes [] ss ls = At ss ls
+Comes (s ∷ l) ss ls = Step s (Comes l ss ls)
 
 -- some lines are done as the statements l: whatever comes behind them, a process goes through them by l and has the loops open that it had
 abbrev pub DoneAs : List Statement → List Statement → Type 0
-DoneAs lines l = (b : Box) (p : Process) (ss : List Statement) → p .wait ≡ forNothing → p .coming ≡ lines ++ ss → Comes p l ss (p .loops)
+DoneAs lines l = (p : Process) (ss : List Statement) → p .wait ≡ forNothing → p .coming ≡ lines ++ ss → Comes l ss (p .loops) p
 
 -- so many times
 unfoldable pub timesOver : ℕ → List Statement → List Statement
@@ -43,6 +46,5 @@ pub record LoopsPass : Type 0 where
   pub plain : (s : Statement) → shape s ≡ stays → DoneAs (s ∷ []) (s ∷ [])
   pub joined : (a b l m : List Statement) → DoneAs a l → DoneAs b m → DoneAs (a ++ b) (l ++ m)
   pub passes : (n : ℕ) (body l : List Statement) → DoneAs body l → DoneAs (inLoop (suc n) body) (loop (suc n) ∷ timesOver (suc n) (l ++ (end ∷ [])))
-  pub forever : (n : ℕ) (body l : List Statement) → DoneAs body l → (b : Box) (p : Process) (ss : List Statement) → p .wait ≡ forNothing →
-      p .coming ≡ inLoop 0 body ++ ss →
-      Comes p (loop 0 ∷ timesOver n (l ++ (end ∷ []))) (body ++ (end ∷ ss)) (record { left = 0; body = body ++ (end ∷ ss) } ∷ p .loops)
+  pub forever : (n : ℕ) (body l : List Statement) → DoneAs body l → (p : Process) (ss : List Statement) → p .wait ≡ forNothing → p .coming ≡ inLoop 0 body ++ ss →
+      Comes (loop 0 ∷ timesOver n (l ++ (end ∷ []))) (body ++ (end ∷ ss)) (record { left = 0; body = body ++ (end ∷ ss) } ∷ p .loops) p
