@@ -1,4 +1,4 @@
--- THE PROMISES, on one page: the three demands of the mission, each proved by one citation. What each claim says stands in specs/. Assumes nothing.
+-- THE PROMISES, on one page: the three demands of the mission and the requests that have landed, each proved by one citation. What each claim says stands in specs/. Assumes nothing.
 use mathlib.Core.List.{List}
 use Prim.Native.Nat.{ℕ}
 use Rattle.language.specs.declared.Table.{Table}
@@ -8,6 +8,10 @@ use Rattle.bounded.specs.Demand3.{fresh, after, Bounded}
 use Rattle.bounded.proofs.Demand3.{demand-3}
 use Rattle.running.specs.Agreement.{RunsScript}
 use Rattle.running.proofs.Agreement.{runs-script}
+use Rattle.running.specs.Neighbours.{ScriptsApart, BoxesApart, HasRuns}
+use Rattle.running.proofs.Neighbours.{scripts-apart}
+use Rattle.running.proofs.Boxes.{boxes-apart}
+use Rattle.running.proofs.Quieted.{has-runs}
 use Rattle.promises.specs.Demand1.{AltersNothing}
 use Rattle.promises.specs.Demand2.{Faithful}
 use Rattle.promises.specs.Agrees.{Means, Whatever}
@@ -45,6 +49,19 @@ whatever-the-table = whatever
 -- start or quiet moment no process does more than 4,097 statements.
 pub a-run-stays-bounded : {text : List ℕ} {t : Table} {k : ℕ} → Compiles text t k → (b : Box) (qs : List Call) → Bounded t k (after t (fresh t b) qs)
 a-run-stays-bounded = demand-3
+
+-- Document 02, No. 10. Take two accepted scripts that agree in process k and differ in the others as you like. Feed both the same events, each at a quiet
+-- moment, drained to quiet after it. Then what process k sends, the records it writes with their counts, and what it switches are equal, in order, for the
+-- start and for each event: of the runner with the two tables, and of the scripts. The f: settings need not be equal.
+pub one-north-does-not-move-the-other : BoxesApart
+one-north-does-not-move-the-other = boxes-apart
+
+pub of-scripts-too : ScriptsApart
+of-scripts-too = scripts-apart
+
+-- Every list of events whose readings and signals are in range can be fed so: 8 x 4,097 drains always leave no process ready.
+pub there-are-such-runs : HasRuns
+there-are-such-runs = has-runs
 
 -- Two outcomes that meet a public function's statement are equal: of the box's functions by name, and of every shape that a statement has.
 pub outcomes-are-one : Settled

@@ -33,7 +33,7 @@ use Rattle.running.proofs.DrainsAgree.{drain-answers}
 
 -- ---- every call
 
-call-answers : (t : Table) (s : Script) (k : ℕ) (a : Bears t s k) (b : Box) (f : ℕ → ℕ) → All t k (b .state) f → (ps : List script.Process) → Alikes t (b .counts) 0 (b .state .processes) ps →
+pub call-answers : (t : Table) (s : Script) (k : ℕ) (a : Bears t s k) (b : Box) (f : ℕ → ℕ) → All t k (b .state) f → (ps : List script.Process) → Alikes t (b .counts) 0 (b .state .processes) ps →
     length (b .counts) ≡ linesLimit → (q : Call) → Answers t (calls.called tableRight t q b) (script.called s q (boxOf (b .state) ps))
 call-answers t s k a b f h ps al many start = start-answers t s k a b (boxOf (b .state) ps)
 call-answers t s k a b f h ps al many tick = tick-answers t s k a b f h ps al many
@@ -56,7 +56,7 @@ module _ (t : Table) (s : Script) (k : ℕ) (a : Bears t s k) where
       (runs-alike qs after (tally (b .state) (calls.called tableRight t q b .reply) f) (call-keeps t k (a .fits) b f h q .all) (x .after) (x .alike) (x .many)
       ∙ ap (λ (y : script.Box). script.replies s y qs) (sym (x .box)))
 
-  start-bounded : (b : Box) → All t k (calls.called tableRight t start b .box .state) (λ i. 0)
+  pub start-bounded : (b : Box) → All t k (calls.called tableRight t start b .box .state) (λ i. 0)
   unfolding calls.called startCall startEvent
   start-bounded b = rw (a .fits .started) (start-all t k (a .fits))
 
@@ -69,7 +69,7 @@ module _ (t : Table) (s : Script) (k : ℕ) (a : Bears t s k) where
       ∙ ap (λ (z : script.Box). script.replies s z qs) (sym (x .box)))
 
 -- the script that an accepted text says is that of its table
-said-by : (r : Result) {text : List ℕ} {t : Table} {k : ℕ} → Compiles text t k → scriptFrom text ≡ r → r ≡ accepted (scriptOf t)
+pub said-by : (r : Result) {text : List ℕ} {t : Table} {k : ℕ} → Compiles text t k → scriptFrom text ≡ r → r ≡ accepted (scriptOf t)
 unfolding compiled scriptFrom answered
 said-by (accepted s) c e = ap accepted (sym (bears c s e .script))
 said-by (refused f row) {k = k} c e =

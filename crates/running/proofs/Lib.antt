@@ -18,3 +18,11 @@ pub mod Drains
 pub mod Waiting
 pub mod Recording
 pub mod Counting
+pub mod Alone
+pub mod Neighbours
+pub mod Counts
+pub mod Standing
+pub mod SameRuns
+pub mod Boxes
+pub mod Quieted
+pub mod Norths

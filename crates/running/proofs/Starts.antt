@@ -8,9 +8,9 @@ use native.Mathlib.Numerals.{add-one}
 use native.Mathlib.Decide.{decLt}
 use native.Mathlib.Omega.{arith}
 use lib.Dec.{ltb, leb}
-use lib.ListN.{length, getD, set, take, length-append, length-replicate, length-take, getD-replicate}
+use lib.ListN.{length, getD, set, take, length-append, length-replicate, length-take, getD-replicate, List·getD-eq-default}
 use lib.Seq.{slice, getD-take, getD-set-other}
-use borrow.Author.Tests.{ltb-true, leb-true, lt-ltb, le-ltb}
+use borrow.Author.Tests.{ltb-true, ltb-false, leb-true, lt-ltb, le-ltb}
 use Rattle.reader.proofs.Tests.{both-left, both-right}
 use Rattle.language.specs.declared.Heads.{Heads}
 use Rattle.language.specs.declared.Table.{Table}
@@ -102,6 +102,18 @@ module _ (pool : List ℕ) where
   body-parts ws i e [] = items-last (slice i e ws)
   body-parts ws i e (f ∷ es) = items-next (slice i e ws) (bodyFrom pool ws e (f ∷ es)) ∙ ap (λ (l : List (List Statement)). said pool (slice i e ws) ∷ l) (body-parts ws e f es)
 
+  parts-many : (ws : List ℕ) (i : ℕ) (es : List ℕ) → length (parts ws i es) ≡ length es
+  unfolding parts
+  parts-many ws i [] = refl
+  parts-many ws i (e ∷ es) = ap suc (parts-many ws e es)
+
+  -- the one behind j others, where the first begins at i
+  parts-at : (ws : List ℕ) (i : ℕ) (es : List ℕ) (j : ℕ) → j < length es → getD (parts ws i es) j [] ≡ said pool (slice (getD (i ∷ es) j 0) (getD es j 0) ws)
+  unfolding parts
+  parts-at ws i [] j l = absurd (omega arith)
+  parts-at ws i (e ∷ es) zero l = refl
+  parts-at ws i (e ∷ es) (suc j) l = parts-at ws e es j (omega arith)
+
   body-some : (ws : List ℕ) (i : ℕ) (es : List ℕ) → 1 ≤ length es → processes (bodyFrom pool ws i es) ≡ parts ws i es
   body-some ws i [] h = absurd (omega arith)
   body-some ws i (e ∷ es) h = body-parts ws i e es
@@ -109,6 +121,40 @@ module _ (pool : List ℕ) where
 module _ (t : Table) (s : Script) (k : ℕ) (a : Bears t s k) where
   abbrev h : Heads
   h = t .heads
+
+  -- ---- its processes
+
+  abbrev ends : List ℕ
+  ends = take (h .processes) (h .ends)
+
+  ends-many : length ends ≡ h .processes
+  ends-many = omega (arith, length-take (h .processes) (h .ends), a .few, a .ends)
+
+  stops-at : (j : ℕ) → j < h .processes → getD ends j 0 ≡ marks.stops h j
+  stops-at j l = getD-take (h .processes) (h .ends) j 0 l
+
+  begins-at : (j : ℕ) → j < h .processes → getD (0 ∷ ends) j 0 ≡ marks.begins h j
+  begins-at zero l = refl
+  begins-at (suc j) l = stops-at j (omega arith)
+
+  processes-are : processes (s .body) ≡ parts (t .pool) (t .cells) 0 ends
+  unfolding scriptOf
+  processes-are = ap (λ (x : Script). processes (x .body)) (sym (a .script)) ∙ body-some (t .pool) (t .cells) 0 ends (omega (arith, ends-many, a .some))
+
+  pub processes-many : length (processes (s .body)) ≡ h .processes
+  processes-many = ap (λ (l : List (List Statement)). length l) processes-are ∙ parts-many (t .pool) (t .cells) 0 ends ∙ ends-many
+
+  -- the statements of process i stand at its own places; one that the table does not have has none
+  pub process-is : (i : ℕ) → getD (processes (s .body)) i [] ≡ said (t .pool) (slice (firstOf h i) (endOf h i) (t .cells))
+  process-is i = go (ltb i (h .processes)) refl
+    where
+      go : (u : Bool) → ltb i (h .processes) ≡ u → getD (processes (s .body)) i [] ≡ said (t .pool) (slice (cond u (marks.begins h i) 0) (cond u (marks.stops h i) 0) (t .cells))
+      go true e =
+          let l = ltb-true i (h .processes) e in
+          ap (λ (ps : List (List Statement)). getD ps i []) processes-are
+          ∙ parts-at (t .pool) (t .cells) 0 ends i (omega (arith, ends-many))
+          ∙ rw (begins-at i l, stops-at i l)
+      go false e = List·getD-eq-default (processes (s .body)) [] {n = i} (omega (arith, processes-many, ltb-false i (h .processes) e))
 
   -- ---- a start
 
@@ -150,14 +196,11 @@ module _ (t : Table) (s : Script) (k : ℕ) (a : Bears t s k) where
 
   -- a start makes the box stand for the script
   pub start-alike : Alikes t noCounts 0 (startedFrom h 0 processLimit) (map script.begins (done (s .body)))
-  unfolding done scriptOf
+  unfolding done
   start-alike =
-      let es : List ℕ = take (h .processes) (h .ends) in
-      let many : length es ≡ h .processes = omega (arith, length-take (h .processes) (h .ends), a .few, a .ends) in
-      subst (λ (x : Script). Alikes t noCounts 0 (startedFrom h 0 processLimit) (map script.begins (done (x .body)))) (a .script)
-      (rw (body-some (t .pool) (t .cells) 0 es (omega (arith, a .some)))
-      (starts processLimit 0 0 es (omega arith) (omega (arith, a .few)) refl
-      (λ j d. let z : 0 + j ≡ j = omega arith in getD-take (h .processes) (h .ends) j 0 (omega arith) ∙ rw z)))
+      rw processes-are
+      (starts processLimit 0 0 ends (omega (arith, ends-many)) (omega (arith, ends-many, a .few)) refl
+      (λ j d. let z : 0 + j ≡ j = omega arith in stops-at j (omega (arith, ends-many)) ∙ rw z))
 
   -- ---- the processes lie apart
 

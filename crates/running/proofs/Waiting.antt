@@ -16,7 +16,7 @@ use Rattle.running.proofs.Events.{event-taken}
 use Rattle.running.proofs.Drains.{neither, of, drain-leaves}
 
 -- process k of the processes that an event acts on
-acts-on : (f : Wait → Wait) → f forNothing ≡ forNothing → (ps : List Process) (k : ℕ) → of k (map (waiting f) ps) ≡ waiting f (of k ps)
+pub acts-on : (f : Wait → Wait) → f forNothing ≡ forNothing → (ps : List Process) (k : ℕ) → of k (map (waiting f) ps) ≡ waiting f (of k ps)
 acts-on f e [] k = rw e
 acts-on f e (p ∷ ps) zero = refl
 acts-on f e (p ∷ ps) (suc k) = acts-on f e ps k

@@ -6,3 +6,4 @@ pub mod Waits
 pub mod Passes
 pub mod Called
 pub mod Agreement
+pub mod Neighbours

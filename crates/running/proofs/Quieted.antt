@@ -1,0 +1,214 @@
+-- So many drains leave no process ready, whatever calls came since the start: each does one statement, and none does more than 4,097. Assumes nothing.
+use mathlib.Core.Path.{_≡_, refl, sym, ap, ap₂, subst, _∙_}
+use mathlib.Core.Bool.{Bool, true, false, cond, not}
+use mathlib.Core.List.{List, [], _∷_, map}
+use Prim.Native.Nat.{ℕ, zero, suc, _+_, _*_, _≤_, _<_}
+use native.Mathlib.Decide.{ℕ-discrete}
+use native.Mathlib.Omega.{arith}
+use lib.Dec.{eqb}
+use lib.ListN.{length}
+use borrow.Author.Tests.{ltb-true, eq-eqb, ne-eqb}
+use Rattle.reader.proofs.Tests.{both, both-left, both-right, true-is-false}
+use Rattle.runs.specs.Cap.{over}
+use Rattle.language.specs.declared.Table.{Table}
+use Rattle.language.specs.Limits.{processLimit}
+use Rattle.language.specs.Script.{Script}
+use Rattle.language.specs.Table.{scriptOf}
+use Rattle.process.specs.Events as events
+use Rattle.process.specs.Events.{any, every}
+use Rattle.process.specs.Waiting.{ready}
+use Rattle.runner.specs.Draining as draining
+use Rattle.runner.specs.Calls as calls
+use Rattle.starting.specs.Starting.{startEvent}
+use Rattle.runner.specs.Calls.{Call, start, tick, byte, reading, level, drain, outcome, startCall}
+use Rattle.bounded.specs.Replies as runner
+use Rattle.bounded.specs.Replies.{took, isEvent}
+use Rattle.bounded.specs.Demand3.{tally, next, after, fresh}
+use Rattle.bounded.specs.Demand3 as demand3
+use Rattle.bounded.proofs.Several.{busy-lowest}
+use Rattle.running.specs.Running.{Box, busy, Deed, does, Called, started, called}
+use Rattle.running.specs.Neighbours.{Fed, callsOf, drainedBy, fedWith, quietly, wide, accepted, ofScript, enough, Quiets, inRange, HasRuns}
+use Rattle.running.proofs.Starts.{Bears}
+use Rattle.running.proofs.Drains.{says-so, one-statement}
+use Rattle.running.proofs.Standing.{Stands, start-stands, answers, stands-on, busy-is}
+use Rattle.running.proofs.SameRuns.{drained}
+use Rattle.running.proofs.Alone.{quiet-idle}
+use Rattle.running.proofs.Boxes.{own-script, same-run}
+
+enough-is : enough ≡ 32776
+enough-is = refl
+
+-- ---- the statements of all processes
+
+unfoldable total : ℕ → (ℕ → ℕ) → ℕ
+total zero f = 0
+total (suc m) f = f m + total m f
+
+total-most : (m : ℕ) (f : ℕ → ℕ) → ((i : ℕ) → i < m → f i ≤ over) → total m f ≤ m * over
+unfolding total
+total-most zero f h = omega arith
+total-most (suc m) f h = omega (arith, h m (omega arith), total-most m f (λ i l. h i (omega arith)))
+
+total-same : (m : ℕ) (f g : ℕ → ℕ) → ((i : ℕ) → i < m → g i ≡ f i) → total m g ≡ total m f
+unfolding total
+total-same zero f g h = refl
+total-same (suc m) f g h = ap₂ (λ (x y : ℕ). x + y) (h m (omega arith)) (total-same m f g (λ i l. h i (omega arith)))
+
+-- one more of one of them
+total-more : (m low : ℕ) (f g : ℕ → ℕ) → low < m → ((i : ℕ) → g i ≡ cond (eqb i low) (suc (f i)) (f i)) → total m g ≡ suc (total m f)
+unfolding total
+total-more zero low f g l h = absurd (omega arith)
+total-more (suc m) low f g l h = elim (ℕ-discrete m low) [
+  | yes e ↦
+      let here : g m ≡ suc (f m) = h m ∙ rw (eq-eqb m low e) in
+      let rest : total m g ≡ total m f = total-same m f g (λ i j. h i ∙ rw (ne-eqb i low (λ d. omega arith))) in
+      omega (arith, here, rest)
+  | no e ↦
+      let here : g m ≡ f m = h m ∙ rw (ne-eqb m low e) in
+      let rest : total m g ≡ suc (total m f) = total-more m low f g (omega arith) h in
+      omega (arith, here, rest)
+]
+
+-- ---- drains
+
+module _ (t : Table) (s : Script) (n : ℕ) (a : Bears t s n) where
+  most : (b : calls.Box) (c : Box) (f : ℕ → ℕ) → Stands t s n a b c f → total processLimit f ≤ enough
+  most b c f z = total-most processLimit f (λ i l. omega (arith, z .bounded .every i l .fine .brief, a .fits .bounded))
+
+  -- a drain of a box that is not quiet does one more
+  one-more : (b : calls.Box) (c : Box) (f : ℕ → ℕ) → Stands t s n a b c f → (room : ℕ) → wide room ≡ true → busy c ≡ true →
+      total processLimit (tally (b .state) (runner.called t (drain room) b .reply) f) ≡ suc (total processLimit f)
+  unfolding tally
+  one-more b c f z room w e =
+      let o = one-statement s c room (ltb-true 127 room w) in
+      let x = o .some e in
+      let d : Deed = does c (x .process) (x .rest) (x .statement) in
+      let r : runner.called t (drain room) b .reply ≡ outcome (d .says) (d .bytes) =
+      answers t s n a b c f z (drain room) .reply ∙ ap (λ (y : Called). y .reply) (o .one (x .before) (x .process) (x .behind) (x .statement) (x .rest) (x .turn))
+      in
+      let low = ltb-true (draining.lowest (b .state .processes)) (length (b .state .processes)) (sym (busy-lowest (b .state .processes)) ∙ is-busy) in
+      total-more processLimit (draining.lowest (b .state .processes)) f _ (omega (arith, low, z .bounded .eight))
+      (λ i. rw (r, says-so c (x .process) (x .rest) (x .statement) .0))
+    where
+      is-busy : any ready (b .state .processes) ≡ true
+      is-busy = unfold events.busy in busy-is t s n a b c f z ∙ e
+
+  stays-quiet : (rooms : List ℕ) (c : Box) → busy c ≡ false → busy (drainedBy (ofScript s) c rooms) ≡ false
+  unfolding drainedBy
+  stays-quiet [] c e = e
+  stays-quiet (room ∷ rooms) c e = stays-quiet rooms (called s (drain room) c .box) (ap busy (quiet-idle s c room e .box) ∙ e)
+
+  drains-quiet : (rooms : List ℕ) (b : calls.Box) (c : Box) (f : ℕ → ℕ) → Stands t s n a b c f → every wide rooms ≡ true → enough ≤ total processLimit f + length rooms →
+      busy (drainedBy (ofScript s) c rooms) ≡ false
+  unfolding drainedBy
+  drains-quiet [] b c f z w l = go (busy c) refl
+    where
+      go : (u : Bool) → busy c ≡ u → u ≡ false
+      go false e = refl
+      go true e = absurd (omega (arith, one-more b c f z 128 refl e, most _ _ _ (stands-on t s n a b c f z (drain 128))))
+  drains-quiet (room ∷ rooms) b c f z w l = go (busy c) refl (drains-quiet rooms)
+    where
+      go : (u : Bool) → busy c ≡ u → ((b : calls.Box) (c : Box) (f : ℕ → ℕ) → Stands t s n a b c f → every wide rooms ≡ true → enough ≤ total processLimit f + length rooms →
+          busy (drainedBy (ofScript s) c rooms) ≡ false) → busy (drainedBy (ofScript s) (called s (drain room) c .box) rooms) ≡ false
+      go false e ih = stays-quiet (room ∷ rooms) c e
+      go true e ih =
+          ih _ _ _ (stands-on t s n a b c f z (drain room)) (both-right (wide room) _ w)
+          (omega (arith, one-more b c f z room (both-left (wide room) _ w) e))
+
+  -- whatever calls came before
+  fresh-stands : (b : calls.Box) (c : Box) → Stands t s n a (fresh t b .box) (called s start c .box) (fresh t b .done)
+  unfolding fresh next
+  fresh-stands b c = subst (Stands t s n a (runner.called t start b .box) (called s start c .box)) (sym none-done) (start-stands t s n a b c)
+    where
+      none-done : tally (b .state) (runner.called t start b .reply) (λ i. 0) ≡ (λ i. 0)
+      none-done = unfold tally calls.called startCall startEvent in rw (a .fits .started)
+
+  calls-stand : (qs : List Call) (r : demand3.Run) (c : Box) → Stands t s n a (r .box) c (r .done) → (c′ : Box) × Stands t s n a (after t r qs .box) c′ (after t r qs .done)
+  unfolding after next
+  calls-stand [] r c z = (c, z)
+  calls-stand (q ∷ qs) r c z = calls-stand qs (next t r q) (called s q c .box) (stands-on t s n a (r .box) c (r .done) z q)
+
+  -- ---- events in range, with so many drains behind each
+
+  module _ (rooms : List ℕ) (w : every wide rooms ≡ true) (l : enough ≤ length rooms) where
+    abbrev feed : Call → Fed
+    feed q = record { call = q; rooms = rooms }
+
+    record Right (c : Box) (qs : List Call) : Type 0 where
+      quiet : quietly (ofScript s) c (map feed qs) ≡ true
+      taken : accepted (ofScript s) c (map feed qs) ≡ true
+
+    -- a call that is taken
+    feeds : (b : calls.Box) (c : Box) (f : ℕ → ℕ) (q : Call) (qs : List Call) → Stands t s n a (runner.called t q b .box) (called s q c .box) f → took (called s q c .reply) ≡ true →
+        ((b : calls.Box) (c : Box) (f : ℕ → ℕ) → Stands t s n a b c f → busy c ≡ false → Right c qs) → Right c (q ∷ qs)
+    unfolding quietly accepted
+    feeds b c f q qs z e ih =
+        let i = drains-quiet rooms _ _ f z w (omega arith) in
+        let r = drained t s n a 0 rooms _ _ f z in
+        let h = ih _ _ (r .done) (r .stands) i in
+        record { quiet = both (not (busy (fedWith (ofScript s) (feed q) c))) _ (ap not i) (h .quiet); taken = both (took (called s q c .reply)) _ e (h .taken) }
+
+    -- an event in range is taken at a quiet moment
+    in-range : (c : Box) (q : Call) → busy c ≡ false → inRange q ≡ true → took (called s q c .reply) ≡ true
+    unfolding called took
+    in-range c start i e = true-is-false (sym e)
+    in-range c tick i e = rw i
+    in-range c (byte x) i e = rw i
+    in-range c (reading r) i e = rw (i, e)
+    in-range c (level m on) i e = rw (i, e)
+    in-range c (drain room) i e = true-is-false (sym e)
+
+    all-right : (es : List Call) → every inRange es ≡ true → (b : calls.Box) (c : Box) (f : ℕ → ℕ) → Stands t s n a b c f → busy c ≡ false → Right c es
+    unfolding quietly accepted
+    all-right [] e b c f z i = record { quiet = refl; taken = refl }
+    all-right (q ∷ es) e b c f z i =
+        feeds b c _ q es (stands-on t s n a b c f z q) (in-range c q i (both-left (inRange q) _ e)) (all-right es (both-right (inRange q) _ e))
+
+    from-start : (b : calls.Box) (c : Box) (es : List Call) → every inRange es ≡ true → Right c (start ∷ es)
+    unfolding called took
+    from-start b c es e = feeds b c _ start es (start-stands t s n a b c) refl (all-right es e)
+
+    their-calls : (qs : List Call) → callsOf (map feed qs) ≡ qs
+    their-calls [] = refl
+    their-calls (q ∷ qs) = ap (λ (l : List Call). q ∷ l) (their-calls qs)
+
+    their-buffers : (qs : List Call) → every (λ (f : Fed). every wide (f .rooms)) (map feed qs) ≡ true
+    their-buffers [] = refl
+    their-buffers (q ∷ qs) = both (every wide rooms) _ w (their-buffers qs)
+
+is-event : (q : Call) → inRange q ≡ true → isEvent q ≡ true
+is-event start e = e
+is-event tick e = refl
+is-event (byte x) e = refl
+is-event (reading r) e = refl
+is-event (level n on) e = refl
+is-event (drain room) e = e
+
+all-events : (es : List Call) → every inRange es ≡ true → every isEvent es ≡ true
+all-events [] e = refl
+all-events (q ∷ es) e = both (isEvent q) _ (is-event q (both-left (inRange q) _ e)) (all-events es (both-right (inRange q) _ e))
+
+-- THE THEOREM
+pub quiets : Quiets
+quiets text t k c b qs rooms w l =
+    let s : Script = scriptOf t in
+    let a = own-script c in
+    let x = calls-stand t s k a qs (fresh t b) (called s start (started s) .box) (fresh-stands t s k a b (started s)) in
+    let z = x .1 in
+    busy-is t s k a _ _ _ (drained t s k a 0 rooms _ _ _ z .stands) ∙ drains-quiet t s k a rooms _ _ _ z w (omega arith)
+
+-- and every list of events in range has a run
+pub has-runs : HasRuns
+has-runs text t k c b es e rooms w l =
+    let s : Script = scriptOf t in
+    let a = own-script c in
+    let fs : List Fed = map (λ (q : Call). record { call = q; rooms = rooms }) (start ∷ es) in
+    let calls-are = their-calls t s k a rooms w l (start ∷ es) in
+    let r = from-start t s k a rooms w l b (started s) es e in
+    let p = same-run c 0 fs es calls-are b (started s) in
+    record {
+      run = record { calls = calls-are; quiet = p .quiet ∙ r .quiet };
+      events = all-events es e;
+      taken = p .taken ∙ r .taken;
+      buffers = their-buffers t s k a rooms w l (start ∷ es);
+    }
