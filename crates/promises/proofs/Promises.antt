@@ -8,10 +8,10 @@ use Rattle.bounded.specs.Demand3.{fresh, after, Bounded}
 use Rattle.bounded.proofs.Demand3.{demand-3}
 use Rattle.running.specs.Agreement.{RunsScript}
 use Rattle.running.proofs.Agreement.{runs-script}
-use Rattle.running.specs.Neighbours.{ScriptsApart, BoxesApart, HasRuns}
+use Rattle.running.specs.Neighbours.{ScriptsApart, BoxesApart, Quiets, HasRuns}
 use Rattle.running.proofs.Neighbours.{scripts-apart}
 use Rattle.running.proofs.Boxes.{boxes-apart}
-use Rattle.running.proofs.Quieted.{has-runs}
+use Rattle.running.proofs.Quieted.{quiets, has-runs}
 use Rattle.promises.specs.Demand1.{AltersNothing}
 use Rattle.promises.specs.Demand2.{Faithful}
 use Rattle.promises.specs.Agrees.{Means, Whatever}
@@ -59,7 +59,11 @@ one-north-does-not-move-the-other = boxes-apart
 pub of-scripts-too : ScriptsApart
 of-scripts-too = scripts-apart
 
--- Every list of events whose readings and signals are in range can be fed so: 8 x 4,097 drains always leave no process ready.
+-- 8 x 4,097 drains leave no process ready, whatever calls came since the start; so every list of events whose readings and signals are in range can be fed
+-- as No. 10 asks.
+pub drains-come-to-quiet : Quiets
+drains-come-to-quiet = quiets
+
 pub there-are-such-runs : HasRuns
 there-are-such-runs = has-runs
 

@@ -13,40 +13,37 @@ use Rattle.reader.proofs.Tests.{true-is-false}
 use Rattle.language.specs.Script.{Statement, send, loop, end, waitTime, waitData, waitByte, waitClock, waitSignal, rts, log, fchange, pause, resume, nop, Script}
 use Rattle.process.specs.declared.Reading.{Reading}
 use Rattle.process.specs.Events.{any}
-use Rattle.process.specs.declared.Refusal.the-variants.{SmallBuffer}
-use Rattle.outcome.specs.declared.Outcome.the-variants.{Refused}
 use Rattle.runner.specs.Calls.{drain, Reply, outcome}
 use Rattle.running.specs.Running.{Process, Box, statement, isStatement, nextIn, nextBy, next, ready, busy, Deed, does, Called, called}
 use Rattle.running.specs.Called.{process, SomeTurn, doing}
 use Rattle.running.specs.Neighbours.{drainedBy, didOne, saysIn, says, lowest, ofScript}
-use Rattle.running.proofs.Drains.{neither, says-so, one-statement, of}
+use Rattle.running.proofs.Drains.{neither, says-so, one-statement, of, Idle, small-idle, quiet-idle}
 
 -- ---- what a statement does is up to its process, the reading and the levels
 
 abbrev bare : Reading → List Bool → Box
 bare r ls = record { processes = []; reading = r; levels = ls; paused = false }
 
-record Same (b : Box) (p : Process) (ss : List Statement) (x : Statement) : Type 0 where
-  process : does b p ss x .process ≡ does (bare (b .reading) (b .levels)) p ss x .process
-  outcome : does b p ss x .says ≡ does (bare (b .reading) (b .levels)) p ss x .says
-  bytes : does b p ss x .bytes ≡ does (bare (b .reading) (b .levels)) p ss x .bytes
+-- the process after it, and what it says
+abbrev heard : Deed → Process × Reply
+heard d = (d .process, outcome (d .says) (d .bytes))
 
-same : (b : Box) (p : Process) (ss : List Statement) (x : Statement) → Same b p ss x
+same : (b : Box) (p : Process) (ss : List Statement) (x : Statement) → heard (does b p ss x) ≡ heard (does (bare (b .reading) (b .levels)) p ss x)
 unfolding does
-same b p ss (send bs) = record { process = refl; outcome = refl; bytes = refl }
-same b p ss (loop n) = record { process = refl; outcome = refl; bytes = refl }
-same b p ss end = record { process = refl; outcome = refl; bytes = refl }
-same b p ss (waitTime n) = record { process = refl; outcome = refl; bytes = refl }
-same b p ss (waitData bs) = record { process = refl; outcome = refl; bytes = refl }
-same b p ss (waitByte n) = record { process = refl; outcome = refl; bytes = refl }
-same b p ss (waitClock vs) = record { process = refl; outcome = refl; bytes = refl }
-same b p ss (waitSignal n is) = record { process = refl; outcome = refl; bytes = refl }
-same b p ss (rts is) = record { process = refl; outcome = refl; bytes = refl }
-same b p ss (log text) = record { process = refl; outcome = refl; bytes = refl }
-same b p ss fchange = record { process = refl; outcome = refl; bytes = refl }
-same b p ss pause = record { process = refl; outcome = refl; bytes = refl }
-same b p ss resume = record { process = refl; outcome = refl; bytes = refl }
-same b p ss nop = record { process = refl; outcome = refl; bytes = refl }
+same b p ss (send bs) = refl
+same b p ss (loop n) = refl
+same b p ss end = refl
+same b p ss (waitTime n) = refl
+same b p ss (waitData bs) = refl
+same b p ss (waitByte n) = refl
+same b p ss (waitClock vs) = refl
+same b p ss (waitSignal n is) = refl
+same b p ss (rts is) = refl
+same b p ss (log text) = refl
+same b p ss fchange = refl
+same b p ss pause = refl
+same b p ss resume = refl
+same b p ss nop = refl
 
 -- ---- a process by itself, up to where it is not ready
 
@@ -110,27 +107,6 @@ unfolding nextBy nextIn isStatement
 idle-at [] k e = refl
 idle-at (p ∷ ps) zero e = neither (ready p) (any ready ps) e .0
 idle-at (p ∷ ps) (suc k) e = idle-at ps k (neither (ready p) (any ready ps) e .1)
-
--- ---- a drain that does nothing: no process is ready, or its buffer is too small
-
-pub record Idle (s : Script) (b : Box) (room : ℕ) : Type 0 where
-  pub box : called s (drain room) b .box ≡ b
-  pub reply : didOne (called s (drain room) b .reply) ≡ false
-
-pub small-idle : (s : Script) (b : Box) (room : ℕ) → ltb 127 room ≡ false → Idle s b room
-small-idle s b room e = record { box = ap (λ (c : Called). c .box) refused; reply = ap (λ (c : Called). didOne (c .reply)) refused }
-  where
-    refused : called s (drain room) b ≡ record { box = b; reply = outcome (Refused SmallBuffer) [] }
-    refused = unfold called in rw e
-
-pub quiet-idle : (s : Script) (b : Box) (room : ℕ) → busy b ≡ false → Idle s b room
-quiet-idle s b room q = go (ltb 127 room) refl
-  where
-    go : (u : Bool) → ltb 127 room ≡ u → Idle s b room
-    go false e = small-idle s b room e
-    go true e =
-        let o = one-statement s b room (ltb-true 127 room e) .quiet q in
-        record { box = ap (λ (c : Called). c .box) o; reply = ap (λ (c : Called). didOne (c .reply)) o }
 
 -- ---- any drain
 
@@ -231,4 +207,5 @@ went s k b (room ∷ rooms) h =
     go (other x y) l q a = rw y (subst (λ (u : Process). Alone (b .reading) (b .levels) u l q) x a)
     go (own st ss n x y) l q a =
         let z = same b (process k b) ss st in
-        rw (y, z .outcome, z .bytes) (goes st ss n (subst (λ (u : Process). Alone (b .reading) (b .levels) u l q) (x ∙ z .process) a))
+        rw (y, ap (λ (h : Process × Reply). h .1) z)
+        (goes st ss n (subst (λ (u : Process). Alone (b .reading) (b .levels) u l q) (x ∙ ap (λ (h : Process × Reply). h .0) z) a))

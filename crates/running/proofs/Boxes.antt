@@ -1,26 +1,20 @@
 -- One process of the runner does not move another: what it says is what the script's process says. Assumes nothing.
-use mathlib.Core.Path.{_≡_, refl, sym, ap, ap₂, _∙_}
+use mathlib.Core.Path.{_≡_, sym, ap, ap₂, _∙_}
 use mathlib.Core.List.{List, [], _∷_, map}
 use Prim.Native.Nat.{ℕ}
 use lib.ListN.{List·getD-map}
 use Rattle.language.specs.declared.Table.{Table}
 use Rattle.language.specs.Script.{Statement, Script, processes}
 use Rattle.language.specs.Table.{scriptOf}
-use Rattle.language.specs.Answer.{scriptFrom}
 use Rattle.runner.specs.Calls as calls
 use Rattle.runner.specs.Calls.{Call, start}
 use Rattle.bounded.specs.Replies.{Compiles}
 use Rattle.running.specs.Joined.{joinedIn, done}
 use Rattle.running.specs.Running.{Process, Box, started}
 use Rattle.running.specs.Neighbours.{Fed, callsOf, Part, Agree, AgreeInLines, BoxesApart, NorthsApart}
-use Rattle.running.proofs.Starts.{Bears, bears}
-use Rattle.running.proofs.Agreement.{said-by}
+use Rattle.running.proofs.Agreement.{own-script}
 use Rattle.running.proofs.Neighbours.{scripts-apart}
 use Rattle.running.proofs.SameRuns.{tabled, Sames, started-sames}
-
--- a table bears its own script
-pub own-script : {text : List ℕ} {t : Table} {n : ℕ} → Compiles text t n → Bears t (scriptOf t) n
-own-script {text} {t} c = bears c (scriptOf t) (said-by (scriptFrom text) c refl)
 
 -- a run of the runner, and that of the script
 pub same-run : {text : List ℕ} {t : Table} {n : ℕ} (c : Compiles text t n) (k : ℕ) (fs : List Fed) (es : List Call) → callsOf fs ≡ start ∷ es →

@@ -4,8 +4,8 @@ use mathlib.Core.Bool.{Bool, true, false, _||_}
 use mathlib.Core.List.{List, [], _∷_, _++_}
 use Prim.Native.Nat.{ℕ, zero, suc, _<_}
 use lib.Dec.{ltb}
-use lib.ListN.{getD}
-use borrow.Author.Tests.{lt-ltb}
+use lib.ListN.{length, getD, length-append}
+use borrow.Author.Tests.{ltb-true, lt-ltb}
 use Rattle.reader.proofs.Tests.{true-is-false, by-cases}
 use Rattle.language.specs.Script.{Statement, send, loop, end, waitTime, waitData, waitByte, waitClock, waitSignal, rts, log, fchange, pause, resume, nop, Script}
 use Rattle.process.specs.declared.Refusal.the-variants.{SmallBuffer}
@@ -16,6 +16,7 @@ use Rattle.runner.specs.Calls.{drain, outcome}
 use Rattle.bounded.specs.Replies.{did}
 use Rattle.running.specs.Running as script
 use Rattle.running.specs.Running.{Process, Box, Next, idle, statement, isStatement, next, ready, busy, does, Turn, none, later, takes, turn, Called, drained, begins, called}
+use Rattle.running.specs.Neighbours.{didOne}
 use Rattle.running.specs.Called.{HasTurn, SomeTurn, doing, OneStatement, pausedSince}
 
 -- neither of two tests holds
@@ -168,3 +169,40 @@ unfolding called
 drain-leaves s b room k h =
     by-cases (λ (r : Called). of k (r .box .processes) ≡ of k (b .processes)) (ltb 127 room) (drained b (turn b (b .processes))) (record { box = b; reply = outcome (Refused SmallBuffer) [] })
     (λ u. ap (of k) (drained-is b (turn b (b .processes))) ∙ turn-leaves b (b .processes) k h) (λ u. refl)
+
+-- ---- a drain that does nothing: no process is ready, or its buffer is too small
+
+pub record Idle (s : Script) (b : Box) (room : ℕ) : Type 0 where
+  pub box : called s (drain room) b .box ≡ b
+  pub reply : didOne (called s (drain room) b .reply) ≡ false
+
+pub small-idle : (s : Script) (b : Box) (room : ℕ) → ltb 127 room ≡ false → Idle s b room
+small-idle s b room e = record { box = ap (λ (c : Called). c .box) refused; reply = ap (λ (c : Called). didOne (c .reply)) refused }
+  where
+    refused : called s (drain room) b ≡ record { box = b; reply = outcome (Refused SmallBuffer) [] }
+    refused = unfold called in rw e
+
+pub quiet-idle : (s : Script) (b : Box) (room : ℕ) → busy b ≡ false → Idle s b room
+quiet-idle s b room q = go (ltb 127 room) refl
+  where
+    go : (u : Bool) → ltb 127 room ≡ u → Idle s b room
+    go false e = small-idle s b room e
+    go true e =
+        let o = one-statement s b room (ltb-true 127 room e) .quiet q in
+        record { box = ap (λ (c : Called). c .box) o; reply = ap (λ (c : Called). didOne (c .reply)) o }
+
+-- ---- any drain leaves as many processes
+
+pub drain-many : (s : Script) (room : ℕ) (b : Box) → length (called s (drain room) b .box .processes) ≡ length (b .processes)
+drain-many s room b = go (ltb 127 room) refl (busy b) refl
+  where
+    go : (u : Bool) → ltb 127 room ≡ u → (v : Bool) → busy b ≡ v → length (called s (drain room) b .box .processes) ≡ length (b .processes)
+    go false e v d = ap (λ (c : Box). length (c .processes)) (small-idle s b room e .box)
+    go true e false d = ap (λ (c : Box). length (c .processes)) (quiet-idle s b room d .box)
+    go true e true d =
+        let o = one-statement s b room (ltb-true 127 room e) in
+        let t = o .some d in
+        ap (λ (c : Called). length (c .box .processes)) (o .one (t .before) (t .process) (t .behind) (t .statement) (t .rest) (t .turn))
+        ∙ length-append (t .before) _
+        ∙ sym (length-append (t .before) (t .process ∷ t .behind))
+        ∙ ap (λ (ps : List Process). length ps) (sym (t .turn .parts))

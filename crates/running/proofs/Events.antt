@@ -1,7 +1,8 @@
 -- An event is taken only when no process is ready, and then it acts on every wait. Assumes nothing.
-use mathlib.Core.Path.{_≡_, refl, sym}
-use mathlib.Core.Bool.{true, false, cond}
-use mathlib.Core.List.{map}
+use mathlib.Core.Path.{_≡_, refl, sym, ap, _∙_}
+use mathlib.Core.Bool.{Bool, true, false, cond}
+use mathlib.Core.List.{List, map}
+use lib.ListN.{length, length-map}
 use lib.Dec.{ltb}
 use Rattle.reader.proofs.Tests.{true-is-false, by-cases}
 use Rattle.language.specs.Script.{Script}
@@ -10,11 +11,10 @@ use Rattle.process.specs.declared.Refusal.{Refusal}
 use Rattle.process.specs.declared.Refusal.the-variants.{Busy, BadReading, NoSuchSignal}
 use Rattle.process.specs.declared.Received.the-variants as received
 use Rattle.process.specs.Events.{readingRight}
-use Rattle.outcome.specs.declared.Outcome.the-variants.{Refused}
 use Rattle.runner.specs.Calls as calls
 use Rattle.runner.specs.Calls.{Call, start, tick, byte, reading, level, drain}
 use Rattle.bounded.specs.Replies.{took, isEvent}
-use Rattle.running.specs.Running.{Box, busy, Called, refuses, takesEvent, waiting, called}
+use Rattle.running.specs.Running.{Process, Box, busy, Called, refuses, takesEvent, waiting, called}
 use Rattle.running.specs.Waits.{eventOn}
 use Rattle.running.specs.Called.{EventTaken}
 
@@ -52,3 +52,11 @@ event-taken s b (level n is) e =
     unless-busy b (level n is) _
     (λ u. by-cases (EventTaken b (level n is)) (ltb n 5) _ _ (λ v. taken-fair b (level n is) _ u refl) (λ v. refused-fair b (level n is) NoSuchSignal))
 event-taken s b (drain room) e = true-is-false (sym e)
+
+-- an event leaves as many processes
+pub event-many : (s : Script) (q : Call) (b : Box) → isEvent q ≡ true → length (called s q b .box .processes) ≡ length (b .processes)
+event-many s q b e = go (took (called s q b .reply)) refl
+  where
+    go : (u : Bool) → took (called s q b .reply) ≡ u → length (called s q b .box .processes) ≡ length (b .processes)
+    go true d = ap (λ (ps : List Process). length ps) (event-taken s b q e .acts d) ∙ length-map (b .processes) _
+    go false d = ap (λ (c : Box). length (c .processes)) (event-taken s b q e .unaltered d)

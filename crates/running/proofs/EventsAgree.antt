@@ -16,10 +16,8 @@ use Rattle.language.specs.Script as scripts
 use Rattle.running.specs.Joined.{done}
 use Rattle.language.specs.Cell.{level}
 use Rattle.language.specs.Table.{settingsOf, scriptOf}
-use Rattle.language.specs.Draft.{refused}
 use Rattle.accepted.specs.Accepted.{tableRight}
 use Rattle.process.specs.declared.Reading.{Reading}
-use Rattle.process.specs.declared.Process.{Process}
 use Rattle.process.specs.declared.State.{State}
 use Rattle.process.specs.declared.Refusal.{Refusal}
 use Rattle.process.specs.declared.Refusal.the-variants.{Busy, BadReading, NoSuchSignal}
@@ -30,7 +28,6 @@ use Rattle.process.specs.Events as events
 use Rattle.process.specs.Events.{busy, took, withProcesses, tickEvent, readingRight, readingEvent, levelEvent}
 use Rattle.recording.specs.Recording.{oneOf, copies}
 use Rattle.receiving.specs.Receiving.{rangesRight, answeredWith, byteEvent}
-use Rattle.outcome.specs.declared.Outcome.the-variants.{Refused}
 use Rattle.starting.specs.Starting.{startState, startEvent, startCounts}
 use Rattle.runner.specs.Calls as calls
 use Rattle.runner.specs.Calls.{Box, start, tick, reading, Called, answeredBy, receivedBy, startCall}
@@ -47,13 +44,23 @@ use Rattle.running.proofs.Starts.{Bears, start-alike}
 abbrev pub boxOf : State → List script.Process → script.Box
 boxOf s qs = record { processes = qs; reading = s .reading; levels = s .levels; paused = s .paused }
 
+-- a box of the runner stands for the script's box with these processes; f being the statements that each has done since the last start or accepted event
+pub record Stands (t : Table) (k : ℕ) (b : Box) (qs : List script.Process) (f : ℕ → ℕ) : Type 0 where
+  pub bounded : All t k (b .state) f
+  pub alike : Alikes t (b .counts) 0 (b .state .processes) qs
+  pub long : length (b .counts) ≡ linesLimit
+
 -- a call answered alike, and the boxes after it alike
 pub record Answers (t : Table) (r : Called) (x : script.Called) : Type 0 where
   pub reply : r .reply ≡ x .reply
   pub after : List script.Process
   pub box : x .box ≡ boxOf (r .box .state) after
   pub alike : Alikes t (r .box .counts) 0 (r .box .state .processes) after
-  pub many : length (r .box .counts) ≡ linesLimit
+  pub long : length (r .box .counts) ≡ linesLimit
+
+-- so the box stands for the script's after it
+pub after-stands : {t : Table} {k : ℕ} {r : Called} {x : script.Called} {f : ℕ → ℕ} (w : Answers t r x) → All t k (r .box .state) f → Stands t k (r .box) (w .after) f
+after-stands w h = record { bounded = h; alike = w .alike; long = w .long }
 
 -- the settings of the heads
 copies-times : (h : Heads) (paused : Bool) (x : ℕ) → copies h paused x ≡ times (settingsOf h) paused x
@@ -72,31 +79,24 @@ module _ (t : Table) (s : Script) (k : ℕ) (a : Bears t s k) (b : Box) where
     after = map script.begins (done (s .body));
     box = refl;
     alike = start-alike t s k a;
-    many = length-replicate {A = ℕ} linesLimit 0;
+    long = length-replicate {A = ℕ} linesLimit 0;
   })
 
-module _ (t : Table) (s : Script) (k : ℕ) (a : Bears t s k) (b : Box) (f : ℕ → ℕ) (h : All t k (b .state) f) (qs : List script.Process)
-    (al : Alikes t (b .counts) 0 (b .state .processes) qs) (many : length (b .counts) ≡ linesLimit) where
-  abbrev hs : Heads
-  hs = t .heads
-
-  abbrev st : State
-  st = b .state
-
+module _ (t : Table) (s : Script) (k : ℕ) (a : Bears t s k) (b : Box) (qs : List script.Process) (f : ℕ → ℕ) (w : Stands t k b qs f) where
   abbrev bx : script.Box
-  bx = boxOf st qs
+  bx = boxOf (b .state) qs
 
-  pub busy-same : busy st ≡ script.busy bx
+  pub busy-same : busy (b .state) ≡ script.busy bx
   unfolding busy script.busy
-  busy-same = busy-alike t (b .counts) 0 (st .processes) qs al
+  busy-same = busy-alike t (b .counts) 0 (b .state .processes) qs (w .alike)
 
   -- ---- events
 
-  stays : (r : Refusal) → Answers t (answeredBy (b .counts) (events.refused st r)) (script.refuses bx r)
-  stays r = record { reply = refl; after = qs; box = refl; alike = al; many = many }
+  stays : (r : Refusal) → Answers t (answeredBy (b .counts) (events.refused (b .state) r)) (script.refuses bx r)
+  stays r = record { reply = refl; after = qs; box = refl; alike = w .alike; long = w .long }
 
   takes : (e : State) (rs : List script.Process) → Alikes t (b .counts) 0 (e .processes) rs → Answers t (answeredBy (b .counts) (took e)) (script.takesEvent (boxOf e rs))
-  takes e rs z = record { reply = refl; after = rs; box = refl; alike = z; many = many }
+  takes e rs z = record { reply = refl; after = rs; box = refl; alike = z; long = w .long }
 
   by-test : (u : Bool) (e g : Event) (x y : script.Called) → Answers t (answeredBy (b .counts) e) x → Answers t (answeredBy (b .counts) g) y →
       Answers t (answeredBy (b .counts) (cond u e g)) (cond u x y)
@@ -104,39 +104,39 @@ module _ (t : Table) (s : Script) (k : ℕ) (a : Bears t s k) (b : Box) (f : ℕ
   by-test false e g x y p q = q
 
   unless-busy : (e : Event) (x : script.Called) → Answers t (answeredBy (b .counts) e) x →
-      Answers t (answeredBy (b .counts) (cond (busy st) (events.refused st Busy) e)) (cond (script.busy bx) (script.refuses bx Busy) x)
-  unless-busy e x p = rw busy-same (by-test (script.busy bx) (events.refused st Busy) e (script.refuses bx Busy) x (stays Busy) p)
+      Answers t (answeredBy (b .counts) (cond (busy (b .state)) (events.refused (b .state) Busy) e)) (cond (script.busy bx) (script.refuses bx Busy) x)
+  unless-busy e x p = rw busy-same (by-test (script.busy bx) (events.refused (b .state) Busy) e (script.refuses bx Busy) x (stays Busy) p)
 
   pub tick-answers : Answers t (calls.called tableRight t tick b) (script.called s tick bx)
   unfolding calls.called script.called tickEvent
-  tick-answers = unless-busy _ _ (takes (withProcesses st (map ticked (st .processes))) _ (event-alike t (b .counts) tickedWait script.ticked (λ i e. refl)
-      (λ j i w v z. tick-waits (t .cells) (t .pool) (endOf hs j) (a .fits .sound j .own .inside) i w v z) 0 (st .processes) qs al))
+  tick-answers = unless-busy _ _ (takes (withProcesses (b .state) (map ticked (b .state .processes))) _ (event-alike t (b .counts) tickedWait script.ticked (λ i e. refl)
+      (λ j i w v z. tick-waits (t .cells) (t .pool) (endOf (t .heads) j) (a .fits .sound j .own .inside) i w v z) 0 (b .state .processes) qs (w .alike)))
 
   pub reading-answers : (r : Reading) → Answers t (calls.called tableRight t (reading r) b) (script.called s (reading r) bx)
   unfolding calls.called script.called readingEvent
   reading-answers r =
       unless-busy _ _ (by-test (readingRight r) _ _ _ _
-      (takes (record { processes = map (readingTaken r) (st .processes); reading = r; levels = st .levels; paused = st .paused }) _
+      (takes (record { processes = map (readingTaken r) (b .state .processes); reading = r; levels = b .state .levels; paused = b .state .paused }) _
       (event-alike t (b .counts) (readingWait r) (script.read r) (λ i e. refl)
-      (λ j i w v z. reading-waits (t .cells) (t .pool) (endOf hs j) (a .fits .sound j .own .inside) r i w v z) 0 (st .processes) qs al))
+      (λ j i w v z. reading-waits (t .cells) (t .pool) (endOf (t .heads) j) (a .fits .sound j .own .inside) r i w v z) 0 (b .state .processes) qs (w .alike)))
       (stays BadReading))
 
   pub level-answers : (n : ℕ) (on : Bool) → Answers t (calls.called tableRight t (calls.level n on) b) (script.called s (calls.level n on) bx)
   unfolding calls.called script.called levelEvent
   level-answers n on =
       unless-busy _ _ (by-test (ltb n 5) _ _ _ _
-      (takes (record { processes = map (levelTaken (level n on)) (st .processes); reading = st .reading; levels = set (st .levels) n on; paused = st .paused }) _
+      (takes (record { processes = map (levelTaken (level n on)) (b .state .processes); reading = b .state .reading; levels = set (b .state .levels) n on; paused = b .state .paused }) _
       (event-alike t (b .counts) (levelWait (level n on)) (script.levelled n on) (λ i e. refl)
-      (λ j i w v z. level-waits (t .cells) (t .pool) (endOf hs j) (a .fits .sound j .own .inside) n on i w v z) 0 (st .processes) qs al))
+      (λ j i w v z. level-waits (t .cells) (t .pool) (endOf (t .heads) j) (a .fits .sound j .own .inside) n on i w v z) 0 (b .state .processes) qs (w .alike)))
       (stays NoSuchSignal))
 
-  ranges-right : rangesRight hs st ≡ true
+  ranges-right : rangesRight (t .heads) (b .state) ≡ true
   unfolding rangesRight
   ranges-right =
-      both (leb (hs .omits) omitLimit) _ (le-leb (hs .omits) omitLimit (a .fits .omitted))
-      (every-right (st .processes) (λ i l. h .every i (omega (arith, h .eight)) .right))
+      both (leb (t .heads .omits) omitLimit) _ (le-leb (t .heads .omits) omitLimit (a .fits .omitted))
+      (every-right (b .state .processes) (λ i l. w .bounded .every i (omega (arith, w .bounded .eight)) .right))
 
-  settings-same : settingsOf hs ≡ s .settings
+  settings-same : settingsOf (t .heads) ≡ s .settings
   unfolding scriptOf
   settings-same = ap (λ (x : Script). x .settings) (a .script)
 
@@ -144,21 +144,21 @@ module _ (t : Table) (s : Script) (k : ℕ) (a : Bears t s k) (b : Box) (f : ℕ
   unfolding calls.called script.called byteEvent
   byte-answers x = rw (ranges-right, busy-same) (go (script.busy bx))
     where
-      took-byte : Answers t (receivedBy (b .counts) (answeredWith (withProcesses st (map (byteTaken (t .pool) x) (st .processes))) (received.Took (record { count = copies hs (st .paused) x }))))
-          (record { box = script.having (script.allWaiting (script.gets x) bx) bx; reply = calls.received (received.Took (record { count = times (s .settings) (st .paused) x })) })
+      took-byte : Answers t (receivedBy (b .counts) (answeredWith (withProcesses (b .state) (map (byteTaken (t .pool) x) (b .state .processes))) (received.Took (record { count = copies (t .heads) (b .state .paused) x }))))
+          (record { box = script.having (script.allWaiting (script.gets x) bx) bx; reply = calls.received (received.Took (record { count = times (s .settings) (b .state .paused) x })) })
       took-byte = record {
-        reply = ap (λ (n : ℕ). calls.received (received.Took (record { count = n }))) (copies-times hs (st .paused) x ∙ ap (λ (g : Settings). times g (st .paused) x) settings-same);
+        reply = ap (λ (n : ℕ). calls.received (received.Took (record { count = n }))) (copies-times (t .heads) (b .state .paused) x ∙ ap (λ (g : Settings). times g (b .state .paused) x) settings-same);
         after = map (script.waiting (script.gets x)) qs;
         box = refl;
         alike = event-alike t (b .counts) (byteWait (t .pool) x) (script.gets x) (λ i e. refl)
-            (λ j i w v z. byte-waits (t .cells) (t .pool) (endOf hs j) (a .fits .sound j .own .inside) x i w v z) 0 (st .processes) qs al;
-        many = many;
+            (λ j i w v z. byte-waits (t .cells) (t .pool) (endOf (t .heads) j) (a .fits .sound j .own .inside) x i w v z) 0 (b .state .processes) qs (w .alike);
+        long = w .long;
       }
 
       go : (u : Bool) → Answers t
-          (receivedBy (b .counts) (cond u (answeredWith st (received.Refused Busy))
-          (answeredWith (withProcesses st (map (byteTaken (t .pool) x) (st .processes))) (received.Took (record { count = copies hs (st .paused) x })))))
+          (receivedBy (b .counts) (cond u (answeredWith (b .state) (received.Refused Busy))
+          (answeredWith (withProcesses (b .state) (map (byteTaken (t .pool) x) (b .state .processes))) (received.Took (record { count = copies (t .heads) (b .state .paused) x })))))
           (cond u (record { box = bx; reply = calls.received (received.Refused Busy) })
-          (record { box = script.having (script.allWaiting (script.gets x) bx) bx; reply = calls.received (received.Took (record { count = times (s .settings) (st .paused) x })) }))
-      go true = record { reply = refl; after = qs; box = refl; alike = al; many = many }
+          (record { box = script.having (script.allWaiting (script.gets x) bx) bx; reply = calls.received (received.Took (record { count = times (s .settings) (b .state .paused) x })) }))
+      go true = record { reply = refl; after = qs; box = refl; alike = w .alike; long = w .long }
       go false = took-byte

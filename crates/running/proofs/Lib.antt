@@ -21,7 +21,7 @@ pub mod Counting
 pub mod Alone
 pub mod Neighbours
 pub mod Counts
-pub mod Standing
+pub mod Following
 pub mod SameRuns
 pub mod Boxes
 pub mod Quieted

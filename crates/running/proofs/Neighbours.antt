@@ -6,7 +6,8 @@ use Prim.Native.Nat.{ℕ}
 use native.Mathlib.Omega.{arith}
 use lib.Dec.{ltb}
 use lib.ListN.{length, set, List·getD-map}
-use Rattle.reader.proofs.Tests.{both-left, both-right, true-is-false}
+use borrow.Author.Tests.{not-true}
+use Rattle.reader.proofs.Tests.{both-left, both-right}
 use Rattle.language.specs.Script.{Script}
 use Rattle.running.specs.Joined.{done}
 use Rattle.process.specs.declared.Reading.{Reading}
@@ -15,9 +16,9 @@ use Rattle.runner.specs.Calls.{Call, start, tick, byte, reading, level, drain, 
 use Rattle.running.specs.Running.{Process, Wait, forNothing, Box, ticked, gets, read, levelled, busy, Called, begins, waiting, started, called}
 use Rattle.running.specs.Called.{process}
 use Rattle.running.specs.Neighbours.{Fed, callsOf, Part, drainedBy, fedWith, quietly, says, parts, ofScript, Agree, ScriptsApart}
-use Rattle.running.proofs.Drains.{of}
+use Rattle.running.proofs.Drains.{of, quiet-idle}
 use Rattle.running.proofs.Waiting.{acts-on}
-use Rattle.running.proofs.Alone.{Alone, one-way, quiet-idle, went}
+use Rattle.running.proofs.Alone.{Alone, one-way, went}
 
 -- two boxes that agree in process k, in the reading and in the levels; whether recording is paused is left out
 record Near (k : ℕ) (b c : Box) : Type 0 where
@@ -81,10 +82,6 @@ drains-near k s r b c n ds es x y =
       };
     }
 
-is-quiet : (u : Bool) → not u ≡ true → u ≡ false
-is-quiet true e = true-is-false (sym e)
-is-quiet false e = refl
-
 -- ---- whole runs
 
 module _ (k : ℕ) (s r : Script) (g : Agree k s r) where
@@ -98,8 +95,8 @@ module _ (k : ℕ) (s r : Script) (g : Agree k s r) where
       Same (fedWith (ofScript s) f b) (fedWith (ofScript r) h c) fs hs) → Same b c (f ∷ fs) (h ∷ hs)
   unfolding quietly parts
   fed-near b c f h fs hs n rest x y e =
-      let i = is-quiet (busy (fedWith (ofScript s) f b)) (both-left (not (busy (fedWith (ofScript s) f b))) _ x) in
-      let j = is-quiet (busy (fedWith (ofScript r) h c)) (both-left (not (busy (fedWith (ofScript r) h c))) _ y) in
+      let i = not-true (busy (fedWith (ofScript s) f b)) (both-left (not (busy (fedWith (ofScript s) f b))) _ x) in
+      let j = not-true (busy (fedWith (ofScript r) h c)) (both-left (not (busy (fedWith (ofScript r) h c))) _ y) in
       let d = drains-near k s r (called s (f .call) b .box) (called r (h .call) c .box) n (f .rooms) (h .rooms) i j in
       let more : callsOf fs ≡ callsOf hs = cc in
       ap₂ (λ (p : Part Process) (ps : List (Part Process)). p ∷ ps)

@@ -29,14 +29,11 @@ use Rattle.bounded.proofs.Several.{busy-lowest}
 use Rattle.running.specs.Running.{Box, busy, Deed, does, Called, started, called}
 use Rattle.running.specs.Neighbours.{Fed, callsOf, drainedBy, fedWith, quietly, wide, accepted, ofScript, enough, Quiets, inRange, HasRuns}
 use Rattle.running.proofs.Starts.{Bears}
-use Rattle.running.proofs.Drains.{says-so, one-statement}
-use Rattle.running.proofs.Standing.{Stands, start-stands, answers, stands-on, busy-is}
+use Rattle.running.proofs.Drains.{says-so, one-statement, quiet-idle}
+use Rattle.running.proofs.Following.{Follows, start-follows, answers, follows-on, busy-is}
 use Rattle.running.proofs.SameRuns.{drained}
-use Rattle.running.proofs.Alone.{quiet-idle}
-use Rattle.running.proofs.Boxes.{own-script, same-run}
-
-enough-is : enough ≡ 32776
-enough-is = refl
+use Rattle.running.proofs.Boxes.{same-run}
+use Rattle.running.proofs.Agreement.{own-script}
 
 -- ---- the statements of all processes
 
@@ -72,11 +69,11 @@ total-more (suc m) low f g l h = elim (ℕ-discrete m low) [
 -- ---- drains
 
 module _ (t : Table) (s : Script) (n : ℕ) (a : Bears t s n) where
-  most : (b : calls.Box) (c : Box) (f : ℕ → ℕ) → Stands t s n a b c f → total processLimit f ≤ enough
-  most b c f z = total-most processLimit f (λ i l. omega (arith, z .bounded .every i l .fine .brief, a .fits .bounded))
+  most : (b : calls.Box) (c : Box) (f : ℕ → ℕ) → Follows t n b c f → total processLimit f ≤ enough
+  most b c f z = total-most processLimit f (λ i l. omega (arith, z .stands .bounded .every i l .fine .brief, a .fits .bounded))
 
   -- a drain of a box that is not quiet does one more
-  one-more : (b : calls.Box) (c : Box) (f : ℕ → ℕ) → Stands t s n a b c f → (room : ℕ) → wide room ≡ true → busy c ≡ true →
+  one-more : (b : calls.Box) (c : Box) (f : ℕ → ℕ) → Follows t n b c f → (room : ℕ) → wide room ≡ true → busy c ≡ true →
       total processLimit (tally (b .state) (runner.called t (drain room) b .reply) f) ≡ suc (total processLimit f)
   unfolding tally
   one-more b c f z room w e =
@@ -87,7 +84,7 @@ module _ (t : Table) (s : Script) (n : ℕ) (a : Bears t s n) where
       answers t s n a b c f z (drain room) .reply ∙ ap (λ (y : Called). y .reply) (o .one (x .before) (x .process) (x .behind) (x .statement) (x .rest) (x .turn))
       in
       let low = ltb-true (draining.lowest (b .state .processes)) (length (b .state .processes)) (sym (busy-lowest (b .state .processes)) ∙ is-busy) in
-      total-more processLimit (draining.lowest (b .state .processes)) f _ (omega (arith, low, z .bounded .eight))
+      total-more processLimit (draining.lowest (b .state .processes)) f _ (omega (arith, low, z .stands .bounded .eight))
       (λ i. rw (r, says-so c (x .process) (x .rest) (x .statement) .0))
     where
       is-busy : any ready (b .state .processes) ≡ true
@@ -98,35 +95,35 @@ module _ (t : Table) (s : Script) (n : ℕ) (a : Bears t s n) where
   stays-quiet [] c e = e
   stays-quiet (room ∷ rooms) c e = stays-quiet rooms (called s (drain room) c .box) (ap busy (quiet-idle s c room e .box) ∙ e)
 
-  drains-quiet : (rooms : List ℕ) (b : calls.Box) (c : Box) (f : ℕ → ℕ) → Stands t s n a b c f → every wide rooms ≡ true → enough ≤ total processLimit f + length rooms →
+  drains-quiet : (rooms : List ℕ) (b : calls.Box) (c : Box) (f : ℕ → ℕ) → Follows t n b c f → every wide rooms ≡ true → enough ≤ total processLimit f + length rooms →
       busy (drainedBy (ofScript s) c rooms) ≡ false
   unfolding drainedBy
   drains-quiet [] b c f z w l = go (busy c) refl
     where
       go : (u : Bool) → busy c ≡ u → u ≡ false
       go false e = refl
-      go true e = absurd (omega (arith, one-more b c f z 128 refl e, most _ _ _ (stands-on t s n a b c f z (drain 128))))
+      go true e = absurd (omega (arith, one-more b c f z 128 refl e, most _ _ _ (follows-on t s n a b c f z (drain 128))))
   drains-quiet (room ∷ rooms) b c f z w l = go (busy c) refl (drains-quiet rooms)
     where
-      go : (u : Bool) → busy c ≡ u → ((b : calls.Box) (c : Box) (f : ℕ → ℕ) → Stands t s n a b c f → every wide rooms ≡ true → enough ≤ total processLimit f + length rooms →
+      go : (u : Bool) → busy c ≡ u → ((b : calls.Box) (c : Box) (f : ℕ → ℕ) → Follows t n b c f → every wide rooms ≡ true → enough ≤ total processLimit f + length rooms →
           busy (drainedBy (ofScript s) c rooms) ≡ false) → busy (drainedBy (ofScript s) (called s (drain room) c .box) rooms) ≡ false
       go false e ih = stays-quiet (room ∷ rooms) c e
       go true e ih =
-          ih _ _ _ (stands-on t s n a b c f z (drain room)) (both-right (wide room) _ w)
+          ih _ _ _ (follows-on t s n a b c f z (drain room)) (both-right (wide room) _ w)
           (omega (arith, one-more b c f z room (both-left (wide room) _ w) e))
 
   -- whatever calls came before
-  fresh-stands : (b : calls.Box) (c : Box) → Stands t s n a (fresh t b .box) (called s start c .box) (fresh t b .done)
+  fresh-follows : (b : calls.Box) (c : Box) → Follows t n (fresh t b .box) (called s start c .box) (fresh t b .done)
   unfolding fresh next
-  fresh-stands b c = subst (Stands t s n a (runner.called t start b .box) (called s start c .box)) (sym none-done) (start-stands t s n a b c)
+  fresh-follows b c = subst (Follows t n (runner.called t start b .box) (called s start c .box)) (sym none-done) (start-follows t s n a b c)
     where
       none-done : tally (b .state) (runner.called t start b .reply) (λ i. 0) ≡ (λ i. 0)
       none-done = unfold tally calls.called startCall startEvent in rw (a .fits .started)
 
-  calls-stand : (qs : List Call) (r : demand3.Run) (c : Box) → Stands t s n a (r .box) c (r .done) → (c′ : Box) × Stands t s n a (after t r qs .box) c′ (after t r qs .done)
+  calls-follow : (qs : List Call) (r : demand3.Run) (c : Box) → Follows t n (r .box) c (r .done) → (c′ : Box) × Follows t n (after t r qs .box) c′ (after t r qs .done)
   unfolding after next
-  calls-stand [] r c z = (c, z)
-  calls-stand (q ∷ qs) r c z = calls-stand qs (next t r q) (called s q c .box) (stands-on t s n a (r .box) c (r .done) z q)
+  calls-follow [] r c z = (c, z)
+  calls-follow (q ∷ qs) r c z = calls-follow qs (next t r q) (called s q c .box) (follows-on t s n a (r .box) c (r .done) z q)
 
   -- ---- events in range, with so many drains behind each
 
@@ -139,13 +136,13 @@ module _ (t : Table) (s : Script) (n : ℕ) (a : Bears t s n) where
       taken : accepted (ofScript s) c (map feed qs) ≡ true
 
     -- a call that is taken
-    feeds : (b : calls.Box) (c : Box) (f : ℕ → ℕ) (q : Call) (qs : List Call) → Stands t s n a (runner.called t q b .box) (called s q c .box) f → took (called s q c .reply) ≡ true →
-        ((b : calls.Box) (c : Box) (f : ℕ → ℕ) → Stands t s n a b c f → busy c ≡ false → Right c qs) → Right c (q ∷ qs)
+    feeds : (b : calls.Box) (c : Box) (f : ℕ → ℕ) (q : Call) (qs : List Call) → Follows t n (runner.called t q b .box) (called s q c .box) f → took (called s q c .reply) ≡ true →
+        ((b : calls.Box) (c : Box) (f : ℕ → ℕ) → Follows t n b c f → busy c ≡ false → Right c qs) → Right c (q ∷ qs)
     unfolding quietly accepted
     feeds b c f q qs z e ih =
         let i = drains-quiet rooms _ _ f z w (omega arith) in
         let r = drained t s n a 0 rooms _ _ f z in
-        let h = ih _ _ (r .done) (r .stands) i in
+        let h = ih _ _ (r .done) (r .follows) i in
         record { quiet = both (not (busy (fedWith (ofScript s) (feed q) c))) _ (ap not i) (h .quiet); taken = both (took (called s q c .reply)) _ e (h .taken) }
 
     -- an event in range is taken at a quiet moment
@@ -158,15 +155,15 @@ module _ (t : Table) (s : Script) (n : ℕ) (a : Bears t s n) where
     in-range c (level m on) i e = rw (i, e)
     in-range c (drain room) i e = true-is-false (sym e)
 
-    all-right : (es : List Call) → every inRange es ≡ true → (b : calls.Box) (c : Box) (f : ℕ → ℕ) → Stands t s n a b c f → busy c ≡ false → Right c es
+    all-right : (es : List Call) → every inRange es ≡ true → (b : calls.Box) (c : Box) (f : ℕ → ℕ) → Follows t n b c f → busy c ≡ false → Right c es
     unfolding quietly accepted
     all-right [] e b c f z i = record { quiet = refl; taken = refl }
     all-right (q ∷ es) e b c f z i =
-        feeds b c _ q es (stands-on t s n a b c f z q) (in-range c q i (both-left (inRange q) _ e)) (all-right es (both-right (inRange q) _ e))
+        feeds b c _ q es (follows-on t s n a b c f z q) (in-range c q i (both-left (inRange q) _ e)) (all-right es (both-right (inRange q) _ e))
 
     from-start : (b : calls.Box) (c : Box) (es : List Call) → every inRange es ≡ true → Right c (start ∷ es)
     unfolding called took
-    from-start b c es e = feeds b c _ start es (start-stands t s n a b c) refl (all-right es e)
+    from-start b c es e = feeds b c _ start es (start-follows t s n a b c) refl (all-right es e)
 
     their-calls : (qs : List Call) → callsOf (map feed qs) ≡ qs
     their-calls [] = refl
@@ -193,9 +190,9 @@ pub quiets : Quiets
 quiets text t k c b qs rooms w l =
     let s : Script = scriptOf t in
     let a = own-script c in
-    let x = calls-stand t s k a qs (fresh t b) (called s start (started s) .box) (fresh-stands t s k a b (started s)) in
+    let x = calls-follow t s k a qs (fresh t b) (called s start (started s) .box) (fresh-follows t s k a b (started s)) in
     let z = x .1 in
-    busy-is t s k a _ _ _ (drained t s k a 0 rooms _ _ _ z .stands) ∙ drains-quiet t s k a rooms _ _ _ z w (omega arith)
+    busy-is t s k a _ _ _ (drained t s k a 0 rooms _ _ _ z .follows) ∙ drains-quiet t s k a rooms _ _ _ z w (omega arith)
 
 -- and every list of events in range has a run
 pub has-runs : HasRuns
@@ -212,3 +209,7 @@ has-runs text t k c b es e rooms w l =
       taken = p .taken ∙ r .taken;
       buffers = their-buffers t s k a rooms w l (start ∷ es);
     }
+
+-- that is 32,776 drains
+enough-is : enough ≡ 32776
+enough-is = refl

@@ -13,7 +13,6 @@ use Rattle.process.specs.Events.{readingRight}
 use Rattle.outcome.specs.declared.Outcome.the-variants.{Refused}
 use Rattle.runner.specs.Calls as calls
 use Rattle.runner.specs.Calls.{Call, start, tick, byte, reading, level, drain, outcome}
-use Rattle.bounded.specs.Replies.{did}
 use Rattle.running.specs.Running as script
 use Rattle.running.specs.Running.{Process, Box, Next, idle, statement, next, busy, Turn, none, later, takes, turn, Called, drained, times, having, allWaiting, started, called}
 use Rattle.running.specs.Called.{boxAfter, pausedSince, pausedAfter, pausedThen, RecordedRight}

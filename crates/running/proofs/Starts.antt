@@ -118,6 +118,14 @@ module _ (pool : List ℕ) where
   body-some ws i [] h = absurd (omega arith)
   body-some ws i (e ∷ es) h = body-parts ws i e es
 
+-- a process with a place of its own is one of the table's
+pub has-place : (h : Heads) (k j : ℕ) → j < endOf h k → k < h .processes
+has-place h k j l = go (ltb k (h .processes)) refl l
+  where
+    go : (u : Bool) → ltb k (h .processes) ≡ u → j < cond u (marks.stops h k) 0 → k < h .processes
+    go true e g = ltb-true k (h .processes) e
+    go false e g = absurd (omega arith)
+
 module _ (t : Table) (s : Script) (k : ℕ) (a : Bears t s k) where
   abbrev h : Heads
   h = t .heads

@@ -1,8 +1,9 @@
--- The processes of the box and those of the script, in their order: busy alike, changed alike by events, and the same one takes its turn. Assumes nothing.
-use mathlib.Core.Path.{_≡_, refl, sym, _∙_}
-use mathlib.Core.Bool.{Bool, true, false}
+-- The processes of the box and those of the script, in their order: busy alike, changed alike by events, and the same one is the lowest that is ready
+-- and takes its turn. Assumes nothing.
+use mathlib.Core.Path.{_≡_, refl, sym, ap, _∙_}
+use mathlib.Core.Bool.{Bool, true, false, cond, _||_}
 use mathlib.Core.List.{List, [], _∷_, map}
-use Prim.Native.Nat.{ℕ, suc, _+_, _≤_, _<_}
+use Prim.Native.Nat.{ℕ, zero, suc, _+_, _≤_, _<_}
 use native.Mathlib.Omega.{arith}
 use lib.ListN.{length, getD, set}
 use Rattle.reader.proofs.Tests.{true-is-false}
@@ -16,7 +17,8 @@ use Rattle.process.specs.Events.{any}
 use Rattle.runner.specs.Draining.{lowest, nobody}
 use Rattle.bounded.specs.Demand3.{firstOf, endOf}
 use Rattle.running.specs.Running as script
-use Rattle.running.specs.Running.{Box, Next, idle, statement, isStatement, next, Turn, none, did, later, takes, turn, does, waiting}
+use Rattle.running.specs.Running.{Box, Next, idle, statement, isStatement, next, Turn, none, did, later, takes, turn, does, waiting, begins}
+use Rattle.running.specs.Neighbours as neighbours
 use Rattle.running.proofs.From.{from}
 use Rattle.running.proofs.Alike.{Waits, Related, related-ready, related-event}
 
@@ -52,6 +54,27 @@ module _ (t : Table) (counts : List ℕ) where
   busy-alike i [] (q ∷ qs) h = absurd h
   busy-alike i (p ∷ ps) (q ∷ qs) h =
       rw (related-ready (t .cells) (t .pool) (firstOf (t .heads) i) (endOf (t .heads) i) counts p q (h .0), busy-alike (suc i) ps qs (h .1))
+
+  -- ---- the same one is the lowest that is ready
+
+  pub lowest-alike : (i : ℕ) (ps : List Process) (qs : List script.Process) → Alikes t counts i ps qs → any script.ready qs ≡ true → lowest ps ≡ neighbours.lowest qs
+  unfolding lowest neighbours.lowest
+  lowest-alike i ps [] h e = true-is-false (sym e)
+  lowest-alike i [] (q ∷ qs) h e = absurd h
+  lowest-alike i (p ∷ ps) (q ∷ qs) h e = go (script.ready q) (related-ready (t .cells) (t .pool) (firstOf (t .heads) i) (endOf (t .heads) i) counts p q (h .0)) (lowest-alike (suc i) ps qs (h .1)) e
+    where
+      go : (u : Bool) → ready p ≡ u → (any script.ready qs ≡ true → lowest ps ≡ neighbours.lowest qs) → (u || any script.ready qs) ≡ true →
+          cond (ready p) 0 (suc (lowest ps)) ≡ cond u 0 (suc (neighbours.lowest qs))
+      go true d f g = rw d
+      go false d f g = rw d (ap suc (f g))
+
+  -- ---- each by itself
+
+  pub alike-at : (i : ℕ) (ps : List Process) (qs : List script.Process) → Alikes t counts i ps qs → (k : ℕ) → k < length qs → Alike t (i + k) counts (getD ps k nobody) (getD qs k (begins []))
+  alike-at i ps [] h k l = absurd (omega arith)
+  alike-at i [] (q ∷ qs) h k l = absurd h
+  alike-at i (p ∷ ps) (q ∷ qs) h zero l = let z : i + 0 ≡ i = omega arith in rw z (h .0)
+  alike-at i (p ∷ ps) (q ∷ qs) h (suc k) l = let z : i + suc k ≡ suc i + k = omega arith in rw z (alike-at (suc i) ps qs (h .1) k (omega arith))
 
   -- ---- an event
 

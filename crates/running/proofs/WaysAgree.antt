@@ -8,7 +8,6 @@ use lib.ListN.{length, getD, set}
 use lib.Dec.{ltb, leb, eqb}
 use borrow.Author.Tests.{ltb-true, le-leb, eq-eqb, ne-eqb}
 use Rattle.reader.proofs.Tests.{true-is-false}
-use Rattle.language.specs.declared.Cell.the-variants.{Loop}
 use Rattle.language.specs.Limits.{loopLimit}
 use Rattle.language.specs.Script.{Statement}
 use Rattle.process.specs.declared.Wait.{Wait}
