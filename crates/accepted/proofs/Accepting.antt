@@ -10,21 +10,21 @@ use Rattle.language.specs.declared.Heads.{Heads}
 use Rattle.language.specs.declared.Table.{Table}
 use Rattle.language.specs.Limits.{linesLimit, processLimit}
 use Rattle.stretch.specs.declared.Measured.{Measured}
-use Rattle.stretch.specs.Measured.{measured, isLargest}
-use Rattle.heads_fit.specs.declared.Reach.{Reach}
-use Rattle.heads_fit.specs.declared.Reach.the-variants.{To, Not}
+use Rattle.stretch.specs.inside.Measured.{measured, isLargest}
+use Rattle.accepted.specs.declared.Fit.{Fit}
+use Rattle.accepted.specs.declared.Fit.the-variants.{To, Not}
 use Rattle.accepted.specs.Accepted.{tableRight}
-use Rattle.heads_fit.specs.Tests.{rising, endsOf, inUse, endsRight, settingsFit}
-use Rattle.cells_fit.specs.Tests.{cellsFit}
-use Rattle.accepted.specs.Tests.{cellsRight, linesIn, fits, passes}
-use Rattle.heads_fit.specs.Reach.{reaches}
+use Rattle.accepted.specs.inside.Heads.{rising, endsOf, inUse, endsRight, settingsFit}
+use Rattle.accepted.specs.inside.Cells.{cellsFit}
+use Rattle.accepted.specs.inside.Lines.{cellsRight, linesIn, fits, tablePasses}
+use Rattle.accepted.specs.inside.EndsFit.{reaches}
 use Rattle.accepted.proofs.Laying.{Typed, last-few}
 use Rattle.accepted.proofs.Passing.{Bytes, decides}
-use Rattle.heads_fit.proofs.Reaching.{reached-not, Reached, reached-to}
+use Rattle.accepted.proofs.EndsFit.{reached-not, Reached, reached-to}
 
 -- ---- the heads
 
-module _ (h : Heads) {r : Reach} {n : ℕ} (told : r ≡ reaches (endsRight h) (inUse h)) (to : r ≡ To n) where
+module _ (h : Heads) {r : Fit} {n : ℕ} (told : r ≡ reaches (endsRight h) (inUse h)) (to : r ≡ To n) where
   ended : Reached (endsRight h) (inUse h) n
   ended = reached-to _ _ n (sym told ∙ to)
 
@@ -45,16 +45,16 @@ module _ (h : Heads) {r : Reach} {n : ℕ} (told : r ≡ reaches (endsRight h) (
 
 -- ---- all tests
 
-module _ (t : Table) (ty : Typed t) (by : Bytes (t .heads)) {r : Reach} (told : r ≡ reaches (endsRight (t .heads)) (inUse (t .heads))) where
+module _ (t : Table) (ty : Typed t) (by : Bytes (t .heads)) {r : Fit} (told : r ≡ reaches (endsRight (t .heads)) (inUse (t .heads))) where
   abbrev h : Heads
   h = t .heads
 
   -- what the tests come to is what decides
-  tested : {v : Bool} → v ≡ passes (t .cells) (t .pool) h → v ≡ tableRight t
+  tested : {v : Bool} → v ≡ tablePasses (t .cells) (t .pool) h → v ≡ tableRight t
   tested e = e ∙ decides t ty by
 
   pub not-ends : r ≡ Not → false ≡ tableRight t
-  unfolding passes fits
+  unfolding tablePasses fits
   not-ends e = tested (rw (reached-not (endsRight h) _ (sym told ∙ e)))
 
   module _ {n : ℕ} (to : r ≡ To n) {a : Bool} (fit : a ≡ cellsFit n (t .cells) (t .pool) (h .used)) where
@@ -65,24 +65,24 @@ module _ (t : Table) (ty : Typed t) (by : Bytes (t .heads)) {r : Reach} (told : 
     ends = reached-to _ _ n (sym told ∙ to) .test
 
     pub not-cells : a ≡ false → false ≡ tableRight t
-    unfolding passes fits
+    unfolding tablePasses fits
     not-cells e = tested (rw (ends, sym cells ∙ e))
 
     module _ (cells-so : a ≡ true) {b : Bool} (settings : b ≡ settingsFit h) where
       pub not-settings : b ≡ false → false ≡ tableRight t
-      unfolding passes fits
+      unfolding tablePasses fits
       not-settings e = tested (rw (ends, sym cells ∙ cells-so, sym settings ∙ e))
 
       module _ (settings-so : b ≡ true) {m : ℕ} (lines : m ≡ linesIn h) where
         pub not-lines : linesLimit < m → false ≡ tableRight t
-        unfolding passes fits
+        unfolding tablePasses fits
         not-lines l =
             let z : linesLimit < linesIn h = omega arith in
             tested (rw (ends, sym cells ∙ cells-so, sym settings ∙ settings-so, lt-leb (linesIn h) linesLimit z))
 
         module _ (few : m ≤ linesLimit) {x y : Measured} (measure : x ≡ measured (t .cells) h) (is : x ≡ y) where
           pub as-measured : {v : Bool} → v ≡ isLargest y → v ≡ tableRight t
-          unfolding passes fits
+          unfolding tablePasses fits
           as-measured e =
               let z : linesIn h ≤ linesLimit = omega arith in
               tested (e ∙ rw (ends, sym cells ∙ cells-so, sym settings ∙ settings-so, le-leb (linesIn h) linesLimit z, sym measure ∙ is))

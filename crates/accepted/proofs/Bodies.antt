@@ -14,8 +14,8 @@ use Rattle.language.specs.Script.{Item, does, next, dataOf}
 use Rattle.language.specs.Right.{right, allRight}
 use Rattle.language.specs.Cell.{decoded}
 use Rattle.language.specs.Table.{wordsFrom, poolOf, endsFrom, itemsOf, bodyFrom}
-use Rattle.cells_fit.specs.Tests.{cellFits, bytesIn, wordsFit, wordsEnd}
-use Rattle.heads_fit.specs.Tests.{rising, lastEnd}
+use Rattle.accepted.specs.inside.Cells.{cellFits, bytesOfCell, wordsFit, wordsEnd}
+use Rattle.accepted.specs.inside.Heads.{rising, lastEnd}
 use Rattle.accepted.proofs.Walk.{Walked, walked}
 
 -- ---- lists joined
@@ -23,7 +23,7 @@ use Rattle.accepted.proofs.Walk.{Walked, walked}
 pub fit-append : (pool a b : List ℕ) (at : ℕ) → wordsFit pool at (a ++ b) ≡ (wordsFit pool at a && wordsFit pool (wordsEnd at a) b)
 unfolding wordsFit wordsEnd
 fit-append pool [] b at = refl
-fit-append pool (w ∷ a) b at = rw (fit-append pool a b (at + bytesIn (decoded w))) (and-assoc (cellFits pool at (decoded w)) _ _)
+fit-append pool (w ∷ a) b at = rw (fit-append pool a b (at + bytesOfCell (decoded w))) (and-assoc (cellFits pool at (decoded w)) _ _)
   where
     and-assoc : (x y z : Bool) → (x && (y && z)) ≡ ((x && y) && z)
     and-assoc true y z = refl
@@ -32,7 +32,7 @@ fit-append pool (w ∷ a) b at = rw (fit-append pool a b (at + bytesIn (decoded 
 pub end-append : (a b : List ℕ) (at : ℕ) → wordsEnd at (a ++ b) ≡ wordsEnd (wordsEnd at a) b
 unfolding wordsEnd
 end-append [] b at = refl
-end-append (w ∷ a) b at = end-append a b (at + bytesIn (decoded w))
+end-append (w ∷ a) b at = end-append a b (at + bytesOfCell (decoded w))
 
 words-append : (is js : List Item) (at : ℕ) → wordsFrom at (is ++ js) ≡ wordsFrom at is ++ wordsFrom (at + length (poolOf is)) js
 unfolding wordsFrom poolOf

@@ -10,10 +10,10 @@ use borrow.Author.Tests.{lt-ltb, ne-eqb}
 use Rattle.reader.specs.Ascii.{ascii}
 use Rattle.reader.specs.Bytes.{same}
 use Rattle.language.specs.Script.{Encode, unset, byte, Settings, Item, does, next, Script, dataOf}
-use Rattle.language.specs.Listing.{when, encodeLines, settingLines, itemLines, bodyLines, listedLines}
+use Rattle.language.specs.Listing.{lineIf, encodeLines, settingLines, itemLines, bodyLines, listedLines}
 use Rattle.language.specs.Right.{nextsIn}
 use Rattle.language.specs.Table.{wordsFrom, endsFrom, encodes}
-use Rattle.heads_fit.specs.Tests.{one}
+use Rattle.accepted.specs.inside.Heads.{countIf}
 
 -- a list is not empty
 abbrev pub filled : List ℕ → Bool
@@ -22,11 +22,11 @@ filled (b ∷ l) = true
 
 -- ---- the settings
 
-when-length : (t : Bool) (l : List ℕ) → length (when t l) ≡ one t
+when-length : (t : Bool) (l : List ℕ) → length (lineIf t l) ≡ countIf t
 when-length true l = refl
 when-length false l = refl
 
-encode-length : (e : Encode) → length (encodeLines e) ≡ one (encodes e)
+encode-length : (e : Encode) → length (encodeLines e) ≡ countIf (encodes e)
 unfolding encodeLines
 encode-length unset = refl
 encode-length (byte b) = refl
@@ -37,7 +37,7 @@ some-omit [] = refl
 some-omit (b ∷ l) = let h : 0 < suc (length l) = omega arith in sym (lt-ltb 0 (suc (length l)) h)
 
 pub settings-length : (s : Settings) → length (settingLines s)
-    ≡ one (encodes (s .encode)) + (one (s .twoStopbits) + (one (ltb 0 (length (s .omit))) + one (not (same (s .lfext) (ascii "LOG")))))
+    ≡ countIf (encodes (s .encode)) + (countIf (s .twoStopbits) + (countIf (ltb 0 (length (s .omit))) + countIf (not (same (s .lfext) (ascii "LOG")))))
 unfolding settingLines
 settings-length s =
     rw (
@@ -76,7 +76,7 @@ unfolding itemLines
 lines-length [] = refl
 lines-length (i ∷ is) = ap suc (lines-length is)
 
-body-length : (is : List Item) → length (bodyLines is) ≡ one (startsNext is) + length is
+body-length : (is : List Item) → length (bodyLines is) ≡ countIf (startsNext is) + length is
 unfolding bodyLines
 body-length [] = refl
 body-length (does s ∷ is) = lines-length (does s ∷ is) ∙ omega arith
@@ -106,6 +106,6 @@ first-empty (next ∷ is) =
     sym (rw (lt-ltb 1 (suc (length (endsFrom 0 is))) l))
 
 pub lines-count : (s : Script) → length (listedLines s)
-    ≡ length (settingLines (s .settings)) + (one (ltb 1 (length (endsFrom 0 (s .body))) && eqb (getD (endsFrom 0 (s .body)) 0 0) 0) + length (s .body))
+    ≡ length (settingLines (s .settings)) + (countIf (ltb 1 (length (endsFrom 0 (s .body))) && eqb (getD (endsFrom 0 (s .body)) 0 0) 0) + length (s .body))
 unfolding listedLines
 lines-count s = rw (length-append, body-length (s .body), first-empty (s .body))

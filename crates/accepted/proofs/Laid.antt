@@ -12,26 +12,26 @@ use Rattle.reader.specs.Bytes.{same}
 use Rattle.reader.proofs.Tests.{both-left, both-right, both}
 use Rattle.language.specs.Limits.{linesLimit, dataLimit, omitLimit, processLimit}
 use Rattle.language.specs.Script.{Statement, send, loop, end, waitTime, waitData, waitByte, waitClock, waitSignal, rts, log, fchange, pause, resume, nop, Encode, unset, byte, Settings, Item, does, next, Script, dataOf}
-use Rattle.language.specs.Meaning.{extension}
 use Rattle.language.specs.Right.{right, allRight, nextsIn, settingsRight}
 use Rattle.language.specs.Cell.{coded, decoded}
 use Rattle.language.specs.Table.{padded, cellFor, wordsFrom, poolOf, endsFrom, encodes, encodeByteOf, headsOf, laidOut, lettersOf, settingsOf}
 use Rattle.language.proofs.Cells.{decode-code}
-use Rattle.language.proofs.Tables.{cell-right, pool-length, settings-back}
+use Rattle.language.proofs.Tables.{pool-length, settings-back}
+use Rattle.language.proofs.TableCells.{cell-right}
 use Rattle.language.proofs.Good.{Good}
-use Rattle.heads_fit.specs.Tests.{zeros, rising, lastEnd, endsRight, settingsFit}
-use Rattle.cells_fit.specs.Tests.{cellsFit, follows, cellFits, bytesIn, wordsFit, wordsEnd}
-use Rattle.accepted.specs.Tests.{cellsRight, fits}
+use Rattle.accepted.specs.inside.Heads.{allZero, rising, lastEnd, endsRight, settingsFit}
+use Rattle.accepted.specs.inside.Cells.{cellsFit, follows, cellFits, bytesOfCell, wordsFit, wordsEnd}
+use Rattle.accepted.specs.inside.Lines.{cellsRight}
 use Rattle.accepted.proofs.Counting.{items-count, ends-count, lines-count}
 
 -- ---- zeros
 
-zeros-zero : (n : ℕ) → zeros (replicate n 0) ≡ true
-unfolding zeros
+zeros-zero : (n : ℕ) → allZero (replicate n 0) ≡ true
+unfolding allZero
 zeros-zero zero = refl
 zeros-zero (suc n) = zeros-zero n
 
-pad-drop : (k : ℕ) (l : List ℕ) → zeros (drop (length l) (padded k l)) ≡ true
+pad-drop : (k : ℕ) (l : List ℕ) → allZero (drop (length l) (padded k l)) ≡ true
 pad-drop k l = rw (drop-at l (replicate (k - length l) 0) (length l) refl) (zeros-zero (k - length l))
 
 pad-take : (k : ℕ) (l : List ℕ) → take (length l) (padded k l) ≡ l
@@ -66,8 +66,8 @@ last-end (next ∷ is) i at = last-end is i at
 
 -- ---- words
 
-cell-bytes : (at : ℕ) (s : Statement) → bytesIn (cellFor at s) ≡ length (dataOf s)
-unfolding bytesIn cellFor dataOf
+cell-bytes : (at : ℕ) (s : Statement) → bytesOfCell (cellFor at s) ≡ length (dataOf s)
+unfolding bytesOfCell cellFor dataOf
 cell-bytes at (send bs) = refl
 cell-bytes at (loop n) = refl
 cell-bytes at end = refl
@@ -115,7 +115,7 @@ words-fit pool rest (does s ∷ is) at r e l =
     in
     let code : decoded (coded (cellFor at s)) ≡ cellFor at s = decode-code (cellFor at s) (cell-right at s rs (omega arith)) in
     let r₁ = words-fit pool rest is (at + length (dataOf s)) (both-right (right s) _ r) behind (omega arith) in
-    let n : bytesIn (decoded (coded (cellFor at s))) ≡ length (dataOf s) = ap bytesIn code ∙ cell-bytes at s in
+    let n : bytesOfCell (decoded (coded (cellFor at s))) ≡ length (dataOf s) = ap bytesOfCell code ∙ cell-bytes at s in
     let sum : at + length (dataOf s) + length (poolOf is) ≡ at + length (dataOf s ++ poolOf is) = omega arith in (
       rw (code, cell-bytes at s) (both (cellFits pool at (cellFor at s)) _ (cell-fits pool at s rs held) (r₁ .0)),
       ap (λ (k : ℕ). wordsEnd (at + k) (wordsFrom (at + length (dataOf s)) is)) n ∙ (r₁ .1 ∙ sum),

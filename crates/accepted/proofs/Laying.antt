@@ -16,22 +16,22 @@ use Rattle.language.specs.Script.{unset, byte, Item}
 use Rattle.language.specs.Meaning.{extension}
 use Rattle.language.specs.Listing.{listedLines}
 use Rattle.language.specs.Table.{padded, wordsFrom, poolOf, encodes, encodeByteOf, headsOf, laidOut, bodyFrom, lettersOf, settingsOf, scriptOf}
-use Rattle.heads_fit.specs.Tests.{zeros, rising, lastEnd, endsOf, inUse, endsRight, settingsFit, firstEmpty, settingsIn}
-use Rattle.cells_fit.specs.Tests.{cellsFit, wordsFit, wordsEnd}
-use Rattle.accepted.specs.Tests.{cellsRight, linesIn}
+use Rattle.accepted.specs.inside.Heads.{allZero, rising, lastEnd, endsOf, inUse, endsRight, settingsFit, firstEmpty, settingsIn}
+use Rattle.accepted.specs.inside.Cells.{cellsFit, wordsFit, wordsEnd}
+use Rattle.accepted.specs.inside.Lines.{cellsRight, linesIn}
 use Rattle.accepted.proofs.Exactly.{heads-equal, tables-equal}
 use Rattle.accepted.proofs.Bodies.{Body, body}
 use Rattle.accepted.proofs.Counting.{settings-length, items-count, ends-count, lines-count}
 
--- ---- zeros behind a list
+-- ---- zeros after a list
 
-zeros-are : (l : List ℕ) → zeros l ≡ true → l ≡ replicate (length l) 0
-unfolding zeros
+zeros-are : (l : List ℕ) → allZero l ≡ true → l ≡ replicate (length l) 0
+unfolding allZero
 zeros-are [] h = refl
 zeros-are (b ∷ l) h = ap₂ (λ (x : ℕ) (r : List ℕ). x ∷ r) (eqb-true b 0 (both-left (eqb b 0) _ h)) (zeros-are l (both-right (eqb b 0) _ h))
 
 -- a list with zeros from n on is its first n elements, padded
-pub pad-take : (n k : ℕ) (l : List ℕ) → length l ≡ k → n ≤ k → zeros (drop n l) ≡ true → padded k (take n l) ≡ l
+pub pad-take : (n k : ℕ) (l : List ℕ) → length l ≡ k → n ≤ k → allZero (drop n l) ≡ true → padded k (take n l) ≡ l
 pad-take n k l e h z =
     let long : length (take n l) ≡ n = length-take-le n l (omega arith) in
     let rest : length (drop n l) ≡ k - n = simp length-drop (omega arith) in
@@ -39,7 +39,7 @@ pad-take n k l e h z =
     rw (long, ← tail) (take-append-drop n l)
 
 -- and so are some elements in front of such a rest
-pub pad-front : (k : ℕ) (a r l : List ℕ) → length l ≡ k → l ≡ a ++ r → zeros r ≡ true → padded k a ≡ l
+pub pad-front : (k : ℕ) (a r l : List ℕ) → length l ≡ k → l ≡ a ++ r → allZero r ≡ true → padded k a ≡ l
 pad-front k a r l e h z =
     let n : length a + length r ≡ k = omega (arith, e, simp length-append at (ap length h)) in
     let m : k - length a ≡ length r = omega arith in
@@ -105,7 +105,7 @@ module _ (t : Table) (ty : Typed t) where
     unfolding endsRight
     ends-rise = both-left (rising 0 (endsOf h)) _ (both-right (leb (h .processes) processLimit) _ (both-right (leb 1 (h .processes)) _ er))
 
-    ends-zero : zeros (drop (h .processes) (h .ends)) ≡ true
+    ends-zero : allZero (drop (h .processes) (h .ends)) ≡ true
     unfolding endsRight
     ends-zero = both-right (rising 0 (endsOf h)) _ (both-right (leb (h .processes) processLimit) _ (both-right (leb 1 (h .processes)) _ er))
 
@@ -125,27 +125,27 @@ module _ (t : Table) (ty : Typed t) where
     laid-cells : padded linesLimit (wordsFrom 0 (scriptOf t .body)) ≡ t .cells
     unfolding scriptOf cellsFit
     laid-cells =
-        let z = both-left (zeros (drop (inUse h) (t .cells))) _ (both-right (wordsFit (t .pool) 0 (take (inUse h) (t .cells))) _ cr) in
+        let z = both-left (allZero (drop (inUse h) (t .cells))) _ (both-right (wordsFit (t .pool) 0 (take (inUse h) (t .cells))) _ cr) in
         let few : inUse h ≤ linesLimit = last-few (endsOf h) 0 ends-rise (omega arith) in
         rw (whole .walk .words) (pad-take (inUse h) linesLimit (t .cells) (ty .cells) few z)
 
     pub used-is : h .used ≡ length (poolOf (scriptOf t .body))
     unfolding scriptOf cellsFit
     used-is =
-        let r = both-right (zeros (drop (inUse h) (t .cells))) _ (both-right (wordsFit (t .pool) 0 (take (inUse h) (t .cells))) _ cr) in
+        let r = both-right (allZero (drop (inUse h) (t .cells))) _ (both-right (wordsFit (t .pool) 0 (take (inUse h) (t .cells))) _ cr) in
         let e = eqb-true (h .used) (wordsEnd 0 (take (inUse h) (t .cells))) (both-left (eqb (h .used) (wordsEnd 0 (take (inUse h) (t .cells)))) _ r) in
         omega (arith, e, whole .walk .size)
 
     pub used-few : h .used ≤ dataLimit
     unfolding cellsFit
     used-few =
-        let r = both-right (zeros (drop (inUse h) (t .cells))) _ (both-right (wordsFit (t .pool) 0 (take (inUse h) (t .cells))) _ cr) in
+        let r = both-right (allZero (drop (inUse h) (t .cells))) _ (both-right (wordsFit (t .pool) 0 (take (inUse h) (t .cells))) _ cr) in
         leb-true (h .used) dataLimit (both-left (leb (h .used) dataLimit) _ (both-right (eqb (h .used) (wordsEnd 0 (take (inUse h) (t .cells)))) _ r))
 
     laid-pool : padded dataLimit (poolOf (scriptOf t .body)) ≡ t .pool
     unfolding scriptOf cellsFit
     laid-pool =
-        let r = both-right (zeros (drop (inUse h) (t .cells))) _ (both-right (wordsFit (t .pool) 0 (take (inUse h) (t .cells))) _ cr) in
+        let r = both-right (allZero (drop (inUse h) (t .cells))) _ (both-right (wordsFit (t .pool) 0 (take (inUse h) (t .cells))) _ cr) in
         let q = both-right (eqb (h .used) (wordsEnd 0 (take (inUse h) (t .cells)))) _ r in
         let e = eqb-true (h .used) (wordsEnd 0 (take (inUse h) (t .cells))) (both-left (eqb (h .used) (wordsEnd 0 (take (inUse h) (t .cells)))) _ r) in
         pad-front dataLimit (poolOf (scriptOf t .body)) (drop (h .used) (t .pool)) (t .pool) (ty .pool)
@@ -160,7 +160,7 @@ module _ (t : Table) (ty : Typed t) where
     laid-heads sf =
         let s₁ = both-right (cond (h .encodes) true (eqb (h .encode) 0)) _ sf in
         let s₂ = both-right (leb (h .omits) omitLimit) _ s₁ in
-        let s₃ = both-right (zeros (drop (h .omits) (h .omit))) _ s₂ in
+        let s₃ = both-right (allZero (drop (h .omits) (h .omit))) _ s₂ in
         let few : h .omits ≤ omitLimit = leb-true (h .omits) omitLimit (both-left (leb (h .omits) omitLimit) _ s₁) in
         let letters = letters-take (h .extension) in
         heads-equal
@@ -171,7 +171,7 @@ module _ (t : Table) (ty : Typed t) where
         (encode-byte (h .encodes) (h .encode) (both-left (cond (h .encodes) true (eqb (h .encode) 0)) _ sf))
         refl
         (length-take-le (h .omits) (h .omit) (omega (arith, ty .omit)))
-        (pad-take (h .omits) omitLimit (h .omit) (ty .omit) few (both-left (zeros (drop (h .omits) (h .omit))) _ s₂))
+        (pad-take (h .omits) omitLimit (h .omit) (ty .omit) few (both-left (allZero (drop (h .omits) (h .omit))) _ s₂))
         (ap (padded 3) letters ∙ pad-take (length (lettersOf (h .extension))) 3 (h .extension) (ty .extension) (omega (arith, letters-few (h .extension), ty .extension)) (both-right (extension (lettersOf (h .extension))) _ s₃))
 
     pub laid : settingsFit h ≡ true → laidOut (scriptOf t) ≡ t

@@ -6,3 +6,12 @@ pub mod Laying
 pub mod Laid
 pub mod Passing
 pub mod Accepting
+pub mod Extension
+pub mod EndsFit
+pub mod Setting
+pub mod Data
+pub mod CellsFit
+pub mod Fitting
+pub mod Others
+pub mod Held
+pub mod AllZero

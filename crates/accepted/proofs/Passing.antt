@@ -21,8 +21,8 @@ use Rattle.language.proofs.Good.{Good, good}
 use Rattle.language.proofs.Tables.{pool-length}
 use Rattle.stretch.proofs.Verdicts.{measured-right}
 use Rattle.accepted.specs.Accepted.{tableRight}
-use Rattle.heads_fit.specs.Tests.{zeros, endsOf, endsRight, settingsFit}
-use Rattle.accepted.specs.Tests.{cellsRight, linesIn, fits, passes}
+use Rattle.accepted.specs.inside.Heads.{allZero, endsOf, endsRight, settingsFit}
+use Rattle.accepted.specs.inside.Lines.{cellsRight, linesIn, fits, tablePasses}
 use Rattle.accepted.proofs.Exactly.{laid-out, script-right, laid-right}
 use Rattle.accepted.proofs.Counting.{ends-count}
 use Rattle.accepted.proofs.Laying.{Typed, processes-some, processes-few, whole, used-is, used-few, ends-long, laid, lines-are}
@@ -64,7 +64,7 @@ module _ (t : Table) (ty : Typed t) (by : Bytes (t .heads)) where
     settings-right =
         let s₁ = both-right (cond (h .encodes) true (eqb (h .encode) 0)) _ sf in
         let s₂ = both-right (leb (h .omits) omitLimit) _ s₁ in
-        let s₃ = both-right (zeros (drop (h .omits) (h .omit))) _ s₂ in
+        let s₃ = both-right (allZero (drop (h .omits) (h .omit))) _ s₂ in
         let few : length (take (h .omits) (h .omit)) ≤ omitLimit =
         simp length-take (omega (arith, leb-true (h .omits) omitLimit (both-left (leb (h .omits) omitLimit) _ s₁)))
         in
@@ -91,8 +91,8 @@ module _ (t : Table) (ty : Typed t) (by : Bytes (t .heads)) where
         rw (settings-right, rights, lines-are t ty er cr sf, lines, le-leb (dataIn (scriptOf t .body)) dataLimit bytes-few, nested, lt-ltb (nextsIn (scriptOf t .body)) processLimit nexts, below)
 
   -- a table that passes is one of a right script
-  passed : passes (t .cells) (t .pool) h ≡ true → tableRight t ≡ true
-  unfolding passes fits
+  passed : tablePasses (t .cells) (t .pool) h ≡ true → tableRight t ≡ true
+  unfolding tablePasses fits
   passed p =
       let f = both-left (fits (t .cells) (t .pool) h) _ p in
       let er = both-left (endsRight h) _ f in
@@ -108,8 +108,8 @@ module _ (t : Table) (ty : Typed t) (by : Bytes (t .heads)) where
       rw (laid t ty er cr sf) at (laid-right s (right-script er cr sf lines nested below))
 
   -- and such a table passes
-  passing : tableRight t ≡ true → passes (t .cells) (t .pool) h ≡ true
-  unfolding passes fits
+  passing : tableRight t ≡ true → tablePasses (t .cells) (t .pool) h ≡ true
+  unfolding tablePasses fits
   passing r =
       let s : Script = scriptOf t in
       let e : laidOut s ≡ t = laid-out t r in
@@ -123,8 +123,8 @@ module _ (t : Table) (ty : Typed t) (by : Bytes (t .heads)) where
       rw (er, cr, sf, le-leb (linesIn h) linesLimit lines)
       (measured-right t (some er cr sf) ∙ both (nests (s .body) 0) _ (g .nested) (g .below))
 
-  pub decides : passes (t .cells) (t .pool) h ≡ tableRight t
-  decides = same-truth (passes (t .cells) (t .pool) h) (tableRight t) passed passing
+  pub decides : tablePasses (t .cells) (t .pool) h ≡ tableRight t
+  decides = same-truth (tablePasses (t .cells) (t .pool) h) (tableRight t) passed passing
     where
       same-truth : (a b : Bool) → (a ≡ true → b ≡ true) → (b ≡ true → a ≡ true) → a ≡ b
       same-truth true b f g = sym (f refl)

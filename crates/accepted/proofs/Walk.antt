@@ -19,11 +19,12 @@ use Rattle.language.specs.Limits.{dataLimit, sendRoom, waitRoom, logRoom}
 use Rattle.language.specs.Clock.{range, within}
 use Rattle.language.specs.Script.{Item, dataOf}
 use Rattle.language.specs.Right.{inRanges, clockRight, right, allRight}
-use Rattle.language.specs.Cell.{span, clock, coded, decoded, spanRight, unitRight, fixedRight, cellRight, clockFrom, fixedUnits}
+use Rattle.language.specs.Cell.{span, clock, coded, decoded, spanRight, unitRight, fixedRight, clockFrom, fixedUnits}
+use Rattle.language.specs.inside.Right.{cellRight}
 use Rattle.language.specs.Table.{dataAt, cellFor, wordsFrom, poolOf, statementOf, itemsOf}
-use Rattle.language.proofs.Tables.{both-map}
+use Rattle.language.proofs.TableCells.{both-map}
 use Rattle.language.proofs.Cells.{span-fits, code-decode}
-use Rattle.cells_fit.specs.Tests.{follows, cellFits, bytesIn, wordsFit, wordsEnd}
+use Rattle.accepted.specs.inside.Cells.{follows, cellFits, bytesOfCell, wordsFit, wordsEnd}
 
 -- ---- clock values
 
@@ -107,8 +108,8 @@ module _ (pool : List ℕ) (at : ℕ) (n : length pool ≡ dataLimit) where
   cell-back Unknown r f = true-is-false (sym f)
 
   -- its data are the bytes from `at` on
-  cell-data : (c : Cell) → cellRight c ≡ true → cellFits pool at c ≡ true → dataOf (statementOf pool c) ≡ take (bytesIn c) (drop at pool)
-  unfolding cellRight cellFits statementOf dataOf bytesIn follows
+  cell-data : (c : Cell) → cellRight c ≡ true → cellFits pool at c ≡ true → dataOf (statementOf pool c) ≡ take (bytesOfCell c) (drop at pool)
+  unfolding cellRight cellFits statementOf dataOf bytesOfCell follows
   cell-data Nothing r f = refl
   cell-data (Send s) r f = rw (eqb-true (s .from) at (both-left (eqb (s .from) at) _ f))
   cell-data (Loop k) r f = refl
@@ -126,8 +127,8 @@ module _ (pool : List ℕ) (at : ℕ) (n : length pool ≡ dataLimit) where
   cell-data Nop r f = refl
   cell-data Unknown r f = refl
 
-  cell-count : (c : Cell) → cellRight c ≡ true → length (dataOf (statementOf pool c)) ≡ bytesIn c
-  unfolding cellRight statementOf dataOf bytesIn
+  cell-count : (c : Cell) → cellRight c ≡ true → length (dataOf (statementOf pool c)) ≡ bytesOfCell c
+  unfolding cellRight statementOf dataOf bytesOfCell
   cell-count Nothing r = refl
   cell-count (Send s) r = data-length pool 0 sendRoom s n r
   cell-count (Loop k) r = refl
@@ -190,15 +191,15 @@ walked pool n (w ∷ ws) at h =
     let c : Cell = decoded w in
     let f = both-left (cellFits pool at c) _ h in
     let k = known pool at n w f in
-    let count : length (dataOf (statementOf pool c)) ≡ bytesIn c = cell-count pool at n c (k .0) in
-    let held : dataOf (statementOf pool c) ≡ take (bytesIn c) (drop at pool) = cell-data pool at n c (k .0) f in
-    let r = walked pool n ws (at + bytesIn c) (both-right (cellFits pool at c) _ h) in
+    let count : length (dataOf (statementOf pool c)) ≡ bytesOfCell c = cell-count pool at n c (k .0) in
+    let held : dataOf (statementOf pool c) ≡ take (bytesOfCell c) (drop at pool) = cell-data pool at n c (k .0) f in
+    let r = walked pool n ws (at + bytesOfCell c) (both-right (cellFits pool at c) _ h) in
     record {
       words = ap₂ (λ (v : ℕ) (l : List ℕ). v ∷ l) (ap coded (cell-back pool at n c (k .0) f) ∙ k .1) (rw count (r .words));
       bytes =
-          sym (take-append-drop (bytesIn c) (drop at pool))
-          ∙ ap₂ (λ (a b : List ℕ). a ++ b) (sym held) (drop-drop (bytesIn c) at pool ∙ r .bytes)
-          ∙ sym (append-assoc (dataOf (statementOf pool c)) (poolOf (itemsOf pool ws)) (drop (wordsEnd (at + bytesIn c) ws) pool));
+          sym (take-append-drop (bytesOfCell c) (drop at pool))
+          ∙ ap₂ (λ (a b : List ℕ). a ++ b) (sym held) (drop-drop (bytesOfCell c) at pool ∙ r .bytes)
+          ∙ sym (append-assoc (dataOf (statementOf pool c)) (poolOf (itemsOf pool ws)) (drop (wordsEnd (at + bytesOfCell c) ws) pool));
       size = simp length-append (omega (arith, r .size, count));
       rights = both (right (statementOf pool c)) _ (cell-statement pool at n c (k .0) f) (r .rights);
     }

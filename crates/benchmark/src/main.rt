@@ -4,25 +4,31 @@
 //   benchmark tick SCRIPT N       the same with ticks
 //   benchmark drain SCRIPT N      starts the script and does N thousand drains, with a tick whenever it is quiet
 use compiler::compile;
+use events::receiving::receive;
 use events::tick;
 use language::Answer;
+use language::CELL_PLACES;
 use language::Cells;
+use language::DRAIN;
 use language::Heads;
 use language::Pool;
+use language::TEXT;
 use language::Table;
 use libc::STDOUT_FILENO;
 use numbers::Number;
 use numbers::decimal::number;
-use outcome::Outcome;
 use process::Received;
 use process::State;
 use process::Taken;
-use receiving::receive;
 use runner::draining::drain;
-use starting::Counts;
-use starting::idle;
-use starting::start;
+use runner::starting::Counts;
+use runner::starting::idle;
+use runner::starting::start;
+use statement::outcome::Outcome;
 use words::is_named;
+
+// One byte more than a text may have is enough to know that it is too long.
+const ROOM: usize = TEXT + 1;
 
 fn wide(n: u32) -> u64 {
     n as u64
@@ -87,7 +93,7 @@ fn do_drain<'a>(
     pool: &'a Pool,
     s: State,
     counts: &mut Counts,
-    out: &mut [u8; 128],
+    out: &mut [u8; DRAIN],
 ) -> Done {
     let d = drain(cells, pool, s, counts, out);
     let state = d.state;
@@ -104,7 +110,7 @@ fn do_or_tick<'a>(
     pool: &'a Pool,
     s: State,
     counts: &mut Counts,
-    out: &mut [u8; 128],
+    out: &mut [u8; DRAIN],
 ) -> Done {
     let done = do_drain(cells, pool, s, counts, out);
     if done.one == 0 {
@@ -127,7 +133,7 @@ fn drain_often<'a>(
     counts: &mut Counts,
     count: u64,
 ) -> Done {
-    let mut out = [0u8; 128];
+    let mut out = [0u8; DRAIN];
     let mut state = s;
     let mut left = count;
     let mut sum = 0u64;
@@ -193,7 +199,7 @@ fn started(what: &[u8], table: Table, count: u64) -> u64 {
     let cells = table.cells;
     let pool = table.pool;
     let heads = table.heads;
-    let mut counts = [0u32; 512];
+    let mut counts = [0u32; CELL_PLACES];
     let e = start(&cells, &pool, heads, idle(), &mut counts);
     let state = e.state;
     let drained = drain_often(&cells, &pool, state, &mut counts, drains(what, count));
@@ -232,7 +238,7 @@ fn open_script() -> i32 {
 }
 
 fn on_script(what: &[u8]) -> u64 {
-    let mut text = [0u8; 65537];
+    let mut text = [0u8; ROOM];
     let n = io::read_full(open_script(), &mut text);
     on_text(what, &text[..n], times())
 }

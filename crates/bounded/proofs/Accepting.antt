@@ -11,10 +11,10 @@ use lib.Seq.{getD-take}
 use borrow.Author.Tests.{ltb-true, leb-true, eqb-true}
 use Rattle.reader.specs.Bytes.{all}
 use Rattle.reader.proofs.Tests.{both-left, both-right, both, true-is-false}
-use Rattle.figures.specs.Flat.{fragments, nests}
-use Rattle.figures.specs.Scan.{fragmentAt}
-use Rattle.figures.specs.Written.{written, run, longest}
-use Rattle.runs.specs.Cap.{limit}
+use Rattle.figures.specs.Flat.{fragments, marksNest}
+use Rattle.figures.specs.inside.Scan.{fragmentAt}
+use Rattle.figures.specs.Written.{written, run, longestRun}
+use Rattle.figures.specs.Cap.{limit}
 use Rattle.language.specs.declared.Heads.{Heads}
 use Rattle.language.specs.declared.Table.{Table}
 use Rattle.language.specs.declared.Answer.{Answer}
@@ -32,30 +32,29 @@ use Rattle.language.proofs.Good.{Good, good}
 use Rattle.language.proofs.Trip.{accepted-right}
 use Rattle.stretch.specs.declared.Measured.{Measured}
 use Rattle.stretch.specs.declared.Measured.the-variants.{Largest, Over, Broken}
-use Rattle.stretch.specs.Marks.{marksBetween, begins, stops}
-use Rattle.stretch.specs.Measured.{measured, isLargest}
-use Rattle.stretch.specs.Scan.{marksTo}
-use Rattle.stretch.specs.Reported.{Within}
+use Rattle.stretch.specs.Marks.{marksBetween, beginsAt, endsAt, marksTo}
+use Rattle.stretch.specs.inside.Measured.{measured, isLargest}
+use Rattle.stretch.specs.Reported.{AtMost}
 use Rattle.stretch.proofs.Marking.{marks-between}
 use Rattle.stretch.proofs.Places.{measured-each}
 use Rattle.stretch.proofs.Verdicts.{Answers, measured-script, measured-right}
 use Rattle.accepted.specs.Accepted.{tableRight}
-use Rattle.heads_fit.specs.Tests.{zeros, rising, endsOf, inUse, endsRight, settingsFit}
-use Rattle.cells_fit.specs.Tests.{cellsFit, wordsFit, wordsEnd}
-use Rattle.accepted.specs.Tests.{cellsRight}
+use Rattle.accepted.specs.inside.Heads.{allZero, rising, endsOf, inUse, endsRight, settingsFit}
+use Rattle.accepted.specs.inside.Cells.{cellsFit, wordsFit, wordsEnd}
+use Rattle.accepted.specs.inside.Lines.{cellsRight}
 use Rattle.accepted.proofs.Exactly.{script-of, laid-right}
 use Rattle.accepted.proofs.Laid.{laid-ends, laid-cells, laid-settings}
 use Rattle.bounded.specs.Replies.{Compiles}
 use Rattle.bounded.specs.Demand3.{firstOf, endOf}
 use Rattle.bounded.proofs.Moves.{Own}
-use Rattle.bounded.proofs.Parts.{slice-fits, Between, rising-at, getD-first}
+use Rattle.bounded.proofs.ProcessCells.{slice-fits, Between, rising-at, getD-first}
 
 -- a process that begins at `first` and ends before `end`
 pub record Sound (cells pool : List ℕ) (k first end : ℕ) : Type 0 where
   pub own : Own cells pool end
   pub order : first ≤ end
-  pub nested : nests 0 (drop first (marksTo cells end)) ≡ true
-  pub most : (m : ℕ) → longest (written m (fragmentAt (marksTo cells end) first)) ≤ k
+  pub nested : marksNest 0 (drop first (marksTo cells end)) ≡ true
+  pub most : (m : ℕ) → longestRun (written m (fragmentAt (marksTo cells end) first)) ≤ k
 
 -- all of a table that the runner needs
 pub record Fitting (t : Table) (k : ℕ) : Type 0 where
@@ -68,7 +67,7 @@ pub record Fitting (t : Table) (k : ℕ) : Type 0 where
 
 -- a process that the table does not have
 none : (cells pool : List ℕ) (k : ℕ) → Sound cells pool k 0 0
-unfolding nests written run fragments
+unfolding marksNest written run fragments
 none cells pool k = record {
   own = record { inside = omega arith; small = omega arith; fits = λ i h. absurd (omega arith) };
   order = le-refl 0;
@@ -136,7 +135,7 @@ module _ (s : Script) (h : scriptRight stretchOf s ≡ true) where
   ends-many : length (endsOf hs) ≡ hs .processes
   ends-many = omega (arith, length-take (hs .processes) (hs .ends), few, ends-long)
 
-  between : (i : ℕ) → i < hs .processes → Between (begins hs i) (stops hs i) (inUse hs)
+  between : (i : ℕ) → i < hs .processes → Between (beginsAt hs i) (endsAt hs i) (inUse hs)
   between i l = rw (getD-first (hs .processes) (hs .ends) i l, getD-take (hs .processes) (hs .ends) i 0 l) at (rising-at (endsOf hs) 0 i rises (omega (arith, ends-many)))
 
   -- ---- the words
@@ -150,7 +149,7 @@ module _ (s : Script) (h : scriptRight stretchOf s ≡ true) where
   bytes-few =
       let e : ℕ = wordsEnd 0 (take (inUse hs) (t .cells)) in
       let r₁ = both-right (wordsFit (t .pool) 0 (take (inUse hs) (t .cells))) _ cr in
-      let r₂ = both-right (zeros (drop (inUse hs) (t .cells))) _ r₁ in
+      let r₂ = both-right (allZero (drop (inUse hs) (t .cells))) _ r₁ in
       let same = eqb-true (hs .used) e (both-left (eqb (hs .used) e) _ r₂) in
       let low = leb-true (hs .used) dataLimit (both-left (leb (hs .used) dataLimit) _ (both-right (eqb (hs .used) e) _ r₂)) in
       omega arith
@@ -171,23 +170,23 @@ module _ (s : Script) (h : scriptRight stretchOf s ≡ true) where
       go (Over n) a e = true-is-false (sym e)
       go Broken a e = true-is-false (sym e)
 
-  sound-at : (i : ℕ) → i < hs .processes → Sound (t .cells) (t .pool) (largest (s .body)) (begins hs i) (stops hs i)
+  sound-at : (i : ℕ) → i < hs .processes → Sound (t .cells) (t .pool) (largest (s .body)) (beginsAt hs i) (endsAt hs i)
   sound-at i l =
       let b = between i l in
-      let w : Within (marksBetween (t .cells) (begins hs i) (stops hs i)) (largest (s .body)) = measured-each (t .cells) hs i l (omega (arith, few, ends-long)) measured-is in
+      let w : AtMost (marksBetween (t .cells) (beginsAt hs i) (endsAt hs i)) (largest (s .body)) = measured-each (t .cells) hs i l (omega (arith, few, ends-long)) measured-is in
       record {
         own = record {
           inside = omega (arith, b .small, cells-long);
           small = b .small;
-          fits = λ j lt. slice-fits (t .cells) (t .pool) j (stops hs i) (inUse hs) (b .most) fit bytes-few;
+          fits = λ j lt. slice-fits (t .cells) (t .pool) j (endsAt hs i) (inUse hs) (b .most) fit bytes-few;
         };
         order = b .order;
-        nested = rw (marks-between (t .cells) (stops hs i) (begins hs i)) (w .fits .nested);
-        most = λ m. rw (marks-between (t .cells) (stops hs i) (begins hs i)) (le-trans (w .fits .exact .most m) (w .most));
+        nested = rw (marks-between (t .cells) (endsAt hs i) (beginsAt hs i)) (w .fits .nested);
+        most = λ m. rw (marks-between (t .cells) (endsAt hs i) (beginsAt hs i)) (le-trans (w .fits .exact .most m) (w .most));
       }
 
   sound-any : (i : ℕ) (b : Bool) → ltb i (hs .processes) ≡ b →
-      Sound (t .cells) (t .pool) (largest (s .body)) (cond b (begins hs i) 0) (cond b (stops hs i) 0)
+      Sound (t .cells) (t .pool) (largest (s .body)) (cond b (beginsAt hs i) 0) (cond b (endsAt hs i) 0)
   sound-any i true e = sound-at i (ltb-true i (hs .processes) e)
   sound-any i false e = none (t .cells) (t .pool) (largest (s .body))
 

@@ -7,8 +7,8 @@ use native.Mathlib.Omega.{arith}
 use lib.ListN.{getD}
 use Rattle.figures.specs.Fragment.{Fragment}
 use Rattle.figures.specs.Flat.{Mark, here, beyond}
-use Rattle.figures.specs.Scan.{fragmentAt}
-use Rattle.figures.specs.Written.{Done, busy, sure, cut, times, repeated, written, run}
+use Rattle.figures.specs.inside.Scan.{fragmentAt}
+use Rattle.figures.specs.Written.{Done, busy, sure, cut, repeatedTimes, repeated, written, run}
 use Rattle.figures.proofs.Growing.{Cut, finish, cuts, keeps, cut-append, cut-times, cut-written, cut-run}
 
 -- An open loop: the place where its body begins, and the passes left, the one under way among them; 0 is forever.
@@ -23,15 +23,15 @@ opensOf (suc d) left back = record { back = getD back d 0; left = getD left d 0 
 
 -- the passes that follow the one under way
 unfoldable pub more : ℕ → ℕ → List Done → List Done
-more m zero xs = times m xs ++ (cut ∷ [])
-more m (suc l) xs = times l xs
+more m zero xs = repeatedTimes m xs ++ (cut ∷ [])
+more m (suc l) xs = repeatedTimes l xs
 
 -- a pass of the loop whose body is p: the body and its END
 abbrev pub whole : ℕ → Fragment → List Done
 whole m p = written m p ++ (busy ∷ [])
 
--- What follows the fragment that the place stands in, bs being what is read behind it: for each open loop its END, the passes left, and the
--- fragment behind it. Each forever loop has m more passes.
+-- What follows the fragment that the place stands in, bs being what is read after it: for each open loop its END, the passes left, and the
+-- fragment after it. Each forever loop has m more passes.
 unfoldable pub onward : List Mark → ℕ → List Fragment → List Open → List Done
 onward ms m bs [] = []
 onward ms m bs (o ∷ os) =
@@ -53,15 +53,15 @@ regroup : (ws ys zs : List Done) → ((ws ++ (busy ∷ [])) ++ ys) ++ zs ≡ ws 
 regroup ws ys zs = simp append-assoc
 
 -- m + 1 passes of a loop and a cut, the loops in its body written out m times or once more
-longer : (m : ℕ) (b : Fragment) (ys zs : List Done) → Cut (times (suc m) (whole m b) ++ (cut ∷ ys)) (times (suc m) (whole (suc m) b) ++ (cut ∷ zs))
+longer : (m : ℕ) (b : Fragment) (ys zs : List Done) → Cut (repeatedTimes (suc m) (whole m b) ++ (cut ∷ ys)) (repeatedTimes (suc m) (whole (suc m) b) ++ (cut ∷ zs))
 longer m b ys zs = cut-append (cut-times (cut-append (cut-written m (suc m) (omega arith) b) (keeps finish)) (suc m)) cuts
 
 -- Into a pass: where l passes are ahead and then zs, the first of them is the body, its END, and the passes that follow.
 -- A forever loop that is written out m + 1 times holds every run of one pass and m more.
 pub enter : (k n l : ℕ) (b : Fragment) (zs : ℕ → List Done) → ((m : ℕ) → run n (repeated m l (whole m b) ++ zs m) ≤ k) →
     (m : ℕ) → run n (written m b ++ (busy ∷ (more m l (whole m b) ++ zs m))) ≤ k
-unfolding repeated more times
+unfolding repeated more repeatedTimes
 enter k n zero b zs h m =
-    rw (append-assoc (times m (whole m b)), ← regroup (written m b) (times m (whole m b)) (cut ∷ zs m))
-    (le-trans (cut-run n (longer m b (zs m) (zs (suc m)))) (rw (append-assoc (times (suc m) (whole (suc m) b))) at (h (suc m))))
-enter k n (suc l) b zs h m = rw (← regroup (written m b) (times l (whole m b)) (zs m)) (h m)
+    rw (append-assoc (repeatedTimes m (whole m b)), ← regroup (written m b) (repeatedTimes m (whole m b)) (cut ∷ zs m))
+    (le-trans (cut-run n (longer m b (zs m) (zs (suc m)))) (rw (append-assoc (repeatedTimes (suc m) (whole (suc m) b))) at (h (suc m))))
+enter k n (suc l) b zs h m = rw (← regroup (written m b) (repeatedTimes l (whole m b)) (zs m)) (h m)

@@ -1,9 +1,8 @@
 -- Every call leaves the processes of an accepted script's table within their bounds, and none is answered 25. Assumes nothing.
-use mathlib.Core.Path.{_≡_, refl, sym, _∙_}
-use mathlib.Core.Bool.{Bool, true, false, cond}
-use mathlib.Core.List.{List, [], map, append-nil}
+use mathlib.Core.Path.{_≡_, refl, _∙_}
+use mathlib.Core.Bool.{Bool, true, cond}
+use mathlib.Core.List.{List, map}
 use Prim.Native.Nat.{ℕ, suc, _+_, _<_}
-use native.Mathlib.Nat.{le-refl}
 use native.Mathlib.Decide.{ℕ-discrete}
 use native.Mathlib.Omega.{arith}
 use lib.Dec.{eqb, ltb, leb}
@@ -15,94 +14,39 @@ use Rattle.figures.specs.Flat.{Mark}
 use Rattle.language.specs.declared.Heads.{Heads}
 use Rattle.language.specs.declared.Table.{Table}
 use Rattle.language.specs.declared.Cell.{Cell}
-use Rattle.language.specs.declared.Cell.the-variants as cell
 use Rattle.language.specs.Limits.{omitLimit, processLimit}
 use Rattle.language.specs.Cell.{level}
-use Rattle.stretch.specs.Marks.{begins, stops}
-use Rattle.stretch.specs.Scan.{marksTo}
-use Rattle.stretch.proofs.Marking.{marks-length}
+use Rattle.stretch.specs.Marks.{beginsAt, endsAt, marksTo}
 use Rattle.process.specs.declared.Reading.{Reading}
 use Rattle.process.specs.declared.Process.{Process}
 use Rattle.process.specs.declared.State.{State}
-use Rattle.process.specs.declared.Refusal.{Refusal}
-use Rattle.process.specs.declared.Refusal.the-variants.{Busy, BadReading, NoSuchSignal, SmallBuffer}
+use Rattle.process.specs.declared.RunRefusal.{RunRefusal}
+use Rattle.process.specs.declared.RunRefusal.the-variants.{Busy, BadReading, NoSuchSignal, SmallBuffer}
 use Rattle.process.specs.declared.Received.the-variants as received
-use Rattle.outcome.specs.declared.Outcome.the-variants.{Quiet, Refused}
+use Rattle.statement.specs.declared.outcome.Outcome.the-variants.{Quiet, Refused}
 use Rattle.process.specs.declared.Event.{Event}
 use Rattle.process.specs.declared.ByteEvent.{ByteEvent}
 use Rattle.runner.specs.declared.Drained.{Drained}
 use Rattle.process.specs.Waiting.{ticked, byteTaken, readingTaken, levelTaken}
-use Rattle.recording.specs.Recording.{copies}
-use Rattle.process.specs.Events.{refusalNumber, every, busy, refused, took, withProcesses, tickEvent, readingRight, readingEvent, levelEvent}
-use Rattle.receiving.specs.Receiving.{rangesRight, byteEvent}
+use Rattle.events.specs.Recording.{timesRecorded}
+use Rattle.process.specs.State.{runRefusalNumber, busy, withProcesses}
+use Rattle.events.specs.Events.{refused, took, tickEvent, readingRight, readingEvent, levelEvent}
+use Rattle.events.specs.Receiving.{rangesRight, byteEvent}
 use Rattle.statement.specs.Moving.{moved, cellAt}
-use Rattle.outcome.specs.Saying.{outcomeOf}
-use Rattle.runner.specs.Draining.{lowest, nobody, turn, writes, stateAfter, unaltered, drained}
-use Rattle.starting.specs.Starting.{startAt, started, startState, noCounts, startEvent, startCounts}
+use Rattle.statement.specs.Saying.{outcomeOf}
+use Rattle.runner.specs.Draining.{lowest, nobody, turnOf, writes, stateAfter, unaltered, drained}
+use Rattle.runner.specs.Starting.{started, startState, noCounts, startEvent, startCounts}
 use Rattle.runner.specs.Calls as calls
-use Rattle.runner.specs.Calls.{Box, Call, start, tick, byte, reading, drain, outcome, Called, boxed, answeredBy, receivedBy, startCall}
-use Rattle.bounded.specs.Replies.{called, outcomeNumber, replyNumber, did}
+use Rattle.runner.specs.Calls.{Box, Call, start, tick, byte, reading, drain, outcome, boxed, answeredBy, receivedBy, startCall}
+use Rattle.bounded.specs.Replies.{called, replyNumber}
 use Rattle.bounded.specs.Demand3.{tally, firstOf, endOf}
-use Rattle.bounded.proofs.Ahead.{opensOf, onward}
-use Rattle.bounded.proofs.Stands.{Held, Good}
-use Rattle.bounded.proofs.Ways.{awake-right, awake-fine}
+use Rattle.bounded.proofs.Held.{Held, Good}
 use Rattle.bounded.proofs.Moves.{moved-good}
 use Rattle.bounded.proofs.Waits.{tick-good, byte-good, reading-good, level-good}
-use Rattle.bounded.proofs.Accepting.{Sound, Fitting}
+use Rattle.bounded.proofs.Accepting.{Fitting}
 use Rattle.bounded.proofs.Several.{lowest-ready, map-at, every-right, started-length, started-at}
-
--- the processes of a state, f being the statements that each has done since the last start or accepted event
-pub record All (t : Table) (k : ℕ) (s : State) (f : ℕ → ℕ) : Type 0 where
-  pub eight : length (s .processes) ≡ processLimit
-  pub every : (i : ℕ) → i < processLimit → Held (marksTo (t .cells) (endOf (t .heads) i)) (firstOf (t .heads) i) k (f i) (getD (s .processes) i nobody)
-
--- what a call on a box leaves, and what it is answered
-pub record Keeps (t : Table) (k : ℕ) (b : Box) (f : ℕ → ℕ) (r : Called) : Type 0 where
-  pub all : All t k (r .box .state) (tally (b .state) (r .reply) f)
-  pub found : replyNumber (r .reply) ≡ 25 → ⊥
-
--- ---- a start
-
-module _ (cells pool : List ℕ) (k first end : ℕ) (s : Sound cells pool k first end) where
-  start-held : Held (marksTo cells end) first k 0 (startAt first end)
-  unfolding opensOf onward
-  start-held =
-      let long = marks-length cells end (s .own .inside) in
-      record {
-        fine =
-            awake-fine (marksTo cells end) first k 0 first end [] (sym long) (omega arith)
-            (record { nested = s .nested; few = omega arith; low = le-refl first; high = omega (arith, s .order); kept = tt })
-            (λ m. rw append-nil (s .most m));
-        left = refl;
-        back = refl;
-        ends = sym long;
-        right = awake-right first end;
-      }
-
-started-is : (b : Bool) (x y : ℕ) → cond b (startAt x y) (startAt 0 0) ≡ startAt (cond b x 0) (cond b y 0)
-started-is true x y = refl
-started-is false x y = refl
-
--- ---- what a statement says
-
-pub outcome-did : (n : ℕ) (c : Cell) → (did (outcomeOf n c) ≡ true) × (outcomeNumber (outcomeOf n c) ≡ 0)
-unfolding outcomeOf
-outcome-did n cell.Nothing = (refl, refl)
-outcome-did n (cell.Send s) = (refl, refl)
-outcome-did n (cell.Loop k) = (refl, refl)
-outcome-did n cell.End = (refl, refl)
-outcome-did n (cell.WaitTime k) = (refl, refl)
-outcome-did n (cell.WaitData s) = (refl, refl)
-outcome-did n (cell.WaitByte k) = (refl, refl)
-outcome-did n (cell.WaitClock c) = (refl, refl)
-outcome-did n (cell.WaitSignal l) = (refl, refl)
-outcome-did n (cell.Rts on) = (refl, refl)
-outcome-did n (cell.Log s) = (refl, refl)
-outcome-did n cell.Fchange = (refl, refl)
-outcome-did n cell.Pause = (refl, refl)
-outcome-did n cell.Resume = (refl, refl)
-outcome-did n cell.Nop = (refl, refl)
-outcome-did n cell.Unknown = (refl, refl)
+use Rattle.bounded.proofs.Keeping.{All, Keeps, start-held, started-is, outcome-did}
+use Rattle.reader.specs.Bytes.{all}
 
 module _ (t : Table) (k : ℕ) (a : Fitting t k) where
   abbrev hs : Heads
@@ -114,7 +58,7 @@ module _ (t : Table) (k : ℕ) (a : Fitting t k) where
     eight = started-length hs 0 processLimit;
     every = λ i l.
         let e : 0 + i ≡ i = omega arith in
-        rw (started-at hs 0 processLimit i l, e, started-is (ltb i (hs .processes)) (begins hs i) (stops hs i))
+        rw (started-at hs 0 processLimit i l, e, started-is (ltb i (hs .processes)) (beginsAt hs i) (endsAt hs i))
         (start-held (t .cells) (t .pool) k (firstOf hs i) (endOf hs i) (a .sound i));
   }
 
@@ -136,12 +80,12 @@ module _ (t : Table) (k : ℕ) (a : Fitting t k) where
     unfolding tally replyNumber
     took-keeps counts s c = record { all = c; found = λ e. omega arith }
 
-    refused-keeps : (r : Refusal) → (refusalNumber r ≡ 25 → ⊥) → Keeps t k b f (answeredBy (b .counts) (refused (b .state) r))
+    refused-keeps : (r : RunRefusal) → (runRefusalNumber r ≡ 25 → ⊥) → Keeps t k b f (answeredBy (b .counts) (refused (b .state) r))
     unfolding tally replyNumber
     refused-keeps r n = record { all = h; found = n }
 
     busy-keeps : Keeps t k b f (answeredBy (b .counts) (refused (b .state) Busy))
-    unfolding refusalNumber
+    unfolding runRefusalNumber
     busy-keeps = refused-keeps Busy (λ e. omega arith)
 
     -- an event is answered 21, or it goes on
@@ -150,7 +94,7 @@ module _ (t : Table) (k : ℕ) (a : Fitting t k) where
         by-cases (λ (x : Event). Keeps t k b f (answeredBy (b .counts) x)) (busy (b .state)) (refused (b .state) Busy) e (λ u. busy-keeps) (λ u. c)
 
     -- and then by a test of its own, or it is taken
-    only-if : (u : Bool) (s : State) (r : Refusal) → All t k s (λ i. 0) → (refusalNumber r ≡ 25 → ⊥) →
+    only-if : (u : Bool) (s : State) (r : RunRefusal) → All t k s (λ i. 0) → (runRefusalNumber r ≡ 25 → ⊥) →
         Keeps t k b f (answeredBy (b .counts) (cond u (took s) (refused (b .state) r)))
     only-if u s r c n =
         by-cases (λ (x : Event). Keeps t k b f (answeredBy (b .counts) x)) u (took s) (refused (b .state) r) (λ v. took-keeps (b .counts) s c) (λ v. refused-keeps r n)
@@ -162,11 +106,11 @@ module _ (t : Table) (k : ℕ) (a : Fitting t k) where
         (every-right (b .state .processes) (λ i l. h .every i (omega (arith, h .eight)) .right))
 
     byte-keeps : (x : ℕ) → Keeps t k b f (receivedBy (b .counts) (byteEvent (t .pool) hs (b .state) x))
-    unfolding byteEvent tally replyNumber refusalNumber
+    unfolding byteEvent tally replyNumber runRefusalNumber
     byte-keeps x =
         let s : State = b .state in
         let took : ByteEvent =
-        record { state = withProcesses s (map (byteTaken (t .pool) x) (s .processes)); answer = received.Took (record { count = copies hs (s .paused) x }) }
+        record { state = withProcesses s (map (byteTaken (t .pool) x) (s .processes)); answer = received.Took (record { count = timesRecorded hs (s .paused) x }) }
         in
         rw ranges-right
         (by-cases (λ (e : ByteEvent). Keeps t k b f (receivedBy (b .counts) e)) (busy s) (record { state = s; answer = received.Refused Busy }) took
@@ -189,7 +133,7 @@ module _ (t : Table) (k : ℕ) (a : Fitting t k) where
     Drains d = (counts bytes : List ℕ) → Keeps t k b f (record { box = boxed (d .state) counts; reply = outcome (d .outcome) bytes })
 
     small-keeps : Drains (unaltered (b .state) (Refused SmallBuffer))
-    unfolding tally replyNumber refusalNumber
+    unfolding tally replyNumber runRefusalNumber
     small-keeps counts bytes = record { all = h; found = λ e. omega arith }
 
     quiet-keeps : Drains (unaltered (b .state) Quiet)
@@ -200,16 +144,16 @@ module _ (t : Table) (k : ℕ) (a : Fitting t k) where
       abbrev i : ℕ
       i = lowest (b .state .processes)
 
-      statement : Good (marksTo (t .cells) (endOf hs i)) (firstOf hs i) k (suc (f i)) (moved (t .cells) (b .state .levels) (turn (b .state)))
+      statement : Good (marksTo (t .cells) (endOf hs i)) (firstOf hs i) k (suc (f i)) (moved (t .cells) (b .state .levels) (turnOf (b .state)))
       statement =
-          moved-good (t .cells) (t .pool) (firstOf hs i) (endOf hs i) k (f i) (a .sound i .own) (b .state .levels) (turn (b .state)) (h .every i lt)
+          moved-good (t .cells) (t .pool) (firstOf hs i) (endOf hs i) k (f i) (a .sound i .own) (b .state .levels) (turnOf (b .state)) (h .every i lt)
           (lowest-ready (b .state .processes) (omega (arith, h .eight)))
 
-      done-keeps : (n : ℕ) → Drains (record { state = stateAfter (t .cells) (b .state); outcome = outcomeOf n (cellAt (t .cells) (turn (b .state))) })
+      done-keeps : (n : ℕ) → Drains (record { state = stateAfter (t .cells) (b .state); outcome = outcomeOf n (cellAt (t .cells) (turnOf (b .state))) })
       unfolding tally replyNumber stateAfter
       done-keeps n counts bytes =
-          let c : Cell = cellAt (t .cells) (turn (b .state)) in
-          let p : Process = moved (t .cells) (b .state .levels) (turn (b .state)) .process in
+          let c : Cell = cellAt (t .cells) (turnOf (b .state)) in
+          let p : Process = moved (t .cells) (b .state .levels) (turnOf (b .state)) .process in
           record {
             all = record {
               eight = length-set (b .state .processes) i p ∙ h .eight;
@@ -230,7 +174,7 @@ module _ (t : Table) (k : ℕ) (a : Fitting t k) where
     -- ---- every call
 
     pub call-keeps : (q : Call) → Keeps t k b f (called t q b)
-    unfolding calls.called startCall startEvent startCounts tickEvent readingEvent levelEvent refusalNumber
+    unfolding calls.called startCall startEvent startCounts tickEvent readingEvent levelEvent runRefusalNumber
     call-keeps start = rw (a .started) (took-keeps noCounts (startState hs) start-all)
     call-keeps tick =
         let s : State = b .state in

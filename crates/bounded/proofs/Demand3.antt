@@ -6,10 +6,10 @@ use Prim.Native.Nat.{ℕ}
 use native.Mathlib.Omega.{arith}
 use lib.ListN.{getD, drop}
 use borrow.Author.Tests.{le-ltb}
-use Rattle.figures.specs.Flat.{nests, beyond}
-use Rattle.figures.specs.Scan.{readAt}
+use Rattle.figures.specs.Flat.{marksNest, beyond}
+use Rattle.figures.specs.inside.Scan.{readAt}
 use Rattle.language.specs.declared.Table.{Table}
-use Rattle.stretch.specs.Scan.{marksTo}
+use Rattle.stretch.specs.Marks.{marksTo}
 use Rattle.stretch.proofs.Marking.{marks-length}
 use Rattle.process.specs.declared.Wait.{Wait}
 use Rattle.process.specs.declared.Wait.the-variants.{Ready, Over, Ticks, Bytes, Data, ClockValue, Signal}
@@ -17,14 +17,15 @@ use Rattle.process.specs.declared.Process.{Process}
 use Rattle.process.specs.Waiting.{readyWait}
 use Rattle.runner.specs.Draining.{nobody}
 use Rattle.runner.specs.Calls as calls
-use Rattle.starting.specs.Starting.{startEvent, startCounts}
+use Rattle.runner.specs.Starting.{startEvent, startCounts}
 use Rattle.runner.specs.Calls.{Box, Call, startCall}
 use Rattle.bounded.specs.Replies.{Compiles}
-use Rattle.bounded.specs.Demand3.{tally, Run, next, after, fresh, firstOf, endOf, Safe, Bounded}
-use Rattle.bounded.proofs.Stands.{resting, Held}
+use Rattle.bounded.specs.Demand3.{tally, CountedRun, nextCall, afterCalls, fresh, firstOf, endOf, Safe, Bounded}
+use Rattle.bounded.proofs.Held.{resting, Held}
 use Rattle.bounded.proofs.Opens.{opens-length, bodies-nest}
 use Rattle.bounded.proofs.Accepting.{Fitting, fitting}
-use Rattle.bounded.proofs.Calling.{All, start-all, call-keeps}
+use Rattle.bounded.proofs.Calling.{start-all, call-keeps}
+use Rattle.bounded.proofs.Keeping.{All}
 use Rattle.bounded.proofs.Quietly.{quiet-exactly}
 
 -- what neither is ready nor rests is over
@@ -46,7 +47,7 @@ module _ (t : Table) (k : ℕ) (a : Fitting t k) where
         high = omega (arith, h .fine .sits .high);
         few = omega (arith, opens-length (p .depth) (p .left) (p .back), h .fine .sits .few);
         enclosed =
-            subst (λ (d : ℕ). nests d (drop (p .place) (marksTo (t .cells) (endOf (t .heads) i))) ≡ true) (opens-length (p .depth) (p .left) (p .back))
+            subst (λ (d : ℕ). marksNest d (drop (p .place) (marksTo (t .cells) (endOf (t .heads) i))) ≡ true) (opens-length (p .depth) (p .left) (p .back))
             (h .fine .sits .nested);
         bodies = bodies-nest (marksTo (t .cells) (endOf (t .heads) i)) (firstOf (t .heads) i) (p .depth) (p .left) (p .back)
             (beyond (readAt (marksTo (t .cells) (endOf (t .heads) i)) (p .place))) (h .fine .sits .kept);
@@ -58,15 +59,15 @@ module _ (t : Table) (k : ℕ) (a : Fitting t k) where
       }
 
   fresh-all : (b : Box) → let r = fresh t b in All t k (r .box .state) (r .done)
-  unfolding fresh next tally calls.called startCall startEvent startCounts
+  unfolding fresh nextCall tally calls.called startCall startEvent startCounts
   fresh-all b = rw (a .started) (start-all t k a)
 
-  after-all : (qs : List Call) (r : Run) → All t k (r .box .state) (r .done) → All t k (after t r qs .box .state) (after t r qs .done)
-  unfolding after next
+  after-all : (qs : List Call) (r : CountedRun) → All t k (r .box .state) (r .done) → All t k (afterCalls t r qs .box .state) (afterCalls t r qs .done)
+  unfolding afterCalls nextCall
   after-all [] r h = h
-  after-all (q ∷ qs) r h = after-all qs (next t r q) (call-keeps t k a (r .box) (r .done) h q .all)
+  after-all (q ∷ qs) r h = after-all qs (nextCall t r q) (call-keeps t k a (r .box) (r .done) h q .all)
 
-  all-bounded : (r : Run) → All t k (r .box .state) (r .done) → Bounded t k r
+  all-bounded : (r : CountedRun) → All t k (r .box .state) (r .done) → Bounded t k r
   all-bounded r h = record {
     eight = h .eight;
     safe = λ i l. safe-at i (r .done i) (getD (r .box .state .processes) i nobody) (h .every i l);
@@ -75,7 +76,7 @@ module _ (t : Table) (k : ℕ) (a : Fitting t k) where
   }
 
 -- THE THEOREM
-pub demand-3 : {text : List ℕ} {t : Table} {k : ℕ} → Compiles text t k → (b : Box) (qs : List Call) → Bounded t k (after t (fresh t b) qs)
+pub demand-3 : {text : List ℕ} {t : Table} {k : ℕ} → Compiles text t k → (b : Box) (qs : List Call) → Bounded t k (afterCalls t (fresh t b) qs)
 demand-3 {t = t} {k = k} c b qs =
     let a = fitting c in
-    all-bounded t k a (after t (fresh t b) qs) (after-all t k a qs (fresh t b) (fresh-all t k a b))
+    all-bounded t k a (afterCalls t (fresh t b) qs) (after-all t k a qs (fresh t b) (fresh-all t k a b))

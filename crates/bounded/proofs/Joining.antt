@@ -8,20 +8,21 @@ use native.Mathlib.Nat.{le-refl}
 use native.Mathlib.Numerals.{add-one}
 use native.Mathlib.Omega.{arith}
 use lib.ListN.{length, drop}
-use Rattle.figures.specs.Flat.{Mark, sureRest, beyond, before, fragments, fragment, nests}
+use Rattle.figures.specs.Flat.{Mark, sureRest, beyond, markBefore, fragments, fragment, marksNest}
 use Rattle.figures.specs.Written.{Done, written, run}
 use Rattle.language.specs.declared.Span.{Span}
 use Rattle.language.specs.declared.Cell.{Cell}
 use Rattle.language.specs.declared.Cell.the-variants.{Nothing, Send, Loop, End, WaitTime, WaitData, WaitByte, WaitClock, WaitSignal, Rts, Log, Fchange, Pause, Resume, Nop, Unknown}
 use Rattle.language.specs.Limits.{waitRoom}
-use Rattle.language.specs.Cell.{decoded, cellRight}
+use Rattle.language.specs.Cell.{decoded}
+use Rattle.language.specs.inside.Right.{cellRight}
 use Rattle.language.specs.Stretch.{markOf}
 use Rattle.language.specs.Table.{statementOf}
 use Rattle.language.proofs.Cells.{span-fits, code-decode}
 use Rattle.stretch.specs.Marks.{cellMark, wordMark}
-use Rattle.cells_fit.specs.Tests as tests
-use Rattle.cells_fit.specs.Tests.{wordsEnd}
-use Rattle.joining.specs.Joining.{more, bytesIn, neighbours, theirBytes}
+use Rattle.accepted.specs.inside.Cells as tests
+use Rattle.accepted.specs.inside.Cells.{wordsEnd}
+use Rattle.statement.specs.Joining.{more, awaitedBytes, neighbours, theirBytes}
 
 -- ---- a cell waits for data, or it is another
 
@@ -51,7 +52,7 @@ kind Unknown = another (λ n o. refl)
 
 -- the second list is the first without some sure rests at its front: it nests and goes on alike, and has no longer run
 pub record Skips (ms ns : List Mark) : Type 0 where
-  pub nested : (d : ℕ) → nests d ns ≡ nests d ms
+  pub nested : (d : ℕ) → marksNest d ns ≡ marksNest d ms
   pub behind : beyond (fragments ns) ≡ beyond (fragments ms)
   pub less : (m : ℕ) (ys : List Done) → run 0 (written m (fragment ns) ++ ys) ≤ run 0 (written m (fragment ms) ++ ys)
 
@@ -59,7 +60,7 @@ skips-none : (ms : List Mark) → Skips ms ms
 skips-none ms = record { nested = λ d. refl; behind = refl; less = λ m ys. le-refl (run 0 (written m (fragment ms) ++ ys)) }
 
 skips-rest : {ms ns : List Mark} → Skips ms ns → Skips (sureRest ∷ ms) ns
-unfolding nests fragments before written run
+unfolding marksNest fragments markBefore written run
 skips-rest s = record { nested = s .nested; behind = s .behind; less = λ m ys. omega (arith, s .less m ys) }
 
 mark-waits : (s : Span) → cellMark (WaitData s) ≡ sureRest
@@ -89,16 +90,16 @@ neighbours-few (w ∷ ws) = go (decoded w) (kind (decoded w)) (neighbours-few ws
 pub end-rises : (ws : List ℕ) (at : ℕ) → at ≤ wordsEnd at ws
 unfolding wordsEnd
 end-rises [] at = le-refl at
-end-rises (w ∷ ws) at = omega (arith, end-rises ws (at + tests.bytesIn (decoded w)))
+end-rises (w ∷ ws) at = omega (arith, end-rises ws (at + tests.bytesOfCell (decoded w)))
 
 pub bytes-together : (ws : List ℕ) (at : ℕ) → at + theirBytes ws ≤ wordsEnd at ws
-unfolding theirBytes wordsEnd tests.bytesIn
+unfolding theirBytes wordsEnd tests.bytesOfCell
 bytes-together [] at = omega arith
 bytes-together (w ∷ ws) at = go (decoded w) (kind (decoded w)) (bytes-together ws)
   where
-    go : (c : Cell) → Kind c → ((at : ℕ) → at + theirBytes ws ≤ wordsEnd at ws) → at + more c (bytesIn c + theirBytes ws) 0 ≤ wordsEnd (at + tests.bytesIn c) ws
+    go : (c : Cell) → Kind c → ((at : ℕ) → at + theirBytes ws ≤ wordsEnd at ws) → at + more c (awaitedBytes c + theirBytes ws) 0 ≤ wordsEnd (at + tests.bytesOfCell c) ws
     go _ (awaiting s) ih = omega (arith, ih (at + s .count))
-    go c (another f) ih = rw (f (bytesIn c + theirBytes ws) 0) (omega (arith, end-rises ws (at + tests.bytesIn c)))
+    go c (another f) ih = rw (f (awaitedBytes c + theirBytes ws) 0) (omega (arith, end-rises ws (at + tests.bytesOfCell c)))
 
 -- a wait for data has some
 pub waits-some : (w : ℕ) (s : Span) → decoded w ≡ WaitData s → 1 ≤ s .count

@@ -1,14 +1,15 @@
 pub mod Ahead
-pub mod Stands
+pub mod Held
 pub mod Opens
 pub mod Ways
 pub mod Statements
 pub mod Joining
 pub mod Moves
 pub mod Waits
-pub mod Parts
+pub mod ProcessCells
 pub mod Accepting
 pub mod Several
+pub mod Keeping
 pub mod Calling
 pub mod Quietly
 pub mod Demand3

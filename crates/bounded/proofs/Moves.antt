@@ -12,7 +12,7 @@ use lib.Seq.{slice, slice-cons, length-slice, getD-take, length-take-le, drop-dr
 use borrow.Author.Tests.{eqb-true, lt-ltb, le-leb, ne-eqb}
 use Rattle.reader.proofs.Tests.{both-left, both, true-is-false, by-cases}
 use Rattle.figures.specs.Flat.{Mark, plain, sureRest}
-use Rattle.figures.specs.Scan.{readAt, Stands}
+use Rattle.figures.specs.inside.Scan.{readAt, MarkAt}
 use Rattle.figures.specs.Written.{run}
 use Rattle.figures.proofs.Scanning.{stands-map}
 use Rattle.language.specs.declared.Span.{Span}
@@ -23,19 +23,18 @@ use Rattle.language.specs.Limits.{linesLimit, dataLimit}
 use Rattle.language.specs.Cell.{decoded}
 use Rattle.language.specs.Stretch.{markOf}
 use Rattle.language.specs.Table.{statementOf}
-use Rattle.stretch.specs.Marks.{cellMark, wordMark, marksBetween}
-use Rattle.stretch.specs.Scan.{marksTo}
+use Rattle.stretch.specs.Marks.{cellMark, wordMark, marksBetween, marksTo}
 use Rattle.stretch.proofs.Marking.{marks-between, marks-length}
-use Rattle.cells_fit.specs.Tests as tests
-use Rattle.cells_fit.specs.Tests.{follows, cellFits, wordsFit, wordsEnd}
+use Rattle.accepted.specs.inside.Cells as tests
+use Rattle.accepted.specs.inside.Cells.{follows, cellFits, wordsFit, wordsEnd}
 use Rattle.process.specs.declared.Wait.{Wait}
 use Rattle.process.specs.declared.Wait.the-variants.{Ticks, Bytes, Data, ClockValue, Signal}
 use Rattle.process.specs.declared.Process.{Process}
 use Rattle.process.specs.Waiting.{ready, waitRight, progressRight, sameLevel}
-use Rattle.joining.specs.Joining.{neighbours, theirBytes}
-use Rattle.statement.specs.Moving.{passes, rests, awaits, restsUnless, signalled, behind, movedBy, moved}
+use Rattle.statement.specs.Joining.{neighbours, theirBytes}
+use Rattle.statement.specs.Moving.{goesOn, rests, awaits, restsUnless, signalled, movedBy, moved}
 use Rattle.bounded.proofs.Ahead.{Open, onward, ahead}
-use Rattle.bounded.proofs.Stands.{Sits, resting, Held, Good}
+use Rattle.bounded.proofs.Held.{Sits, resting, Held, Good}
 use Rattle.bounded.proofs.Ways.{rests-good}
 use Rattle.bounded.proofs.Statements.{loops, counts, passes-good, waits-good, sure-sits, sure-ahead, rest-good, opened-good, closed-good}
 use Rattle.bounded.proofs.Joining.{Skips, neighbours-skip, neighbours-few, bytes-together, waits-some}
@@ -74,15 +73,15 @@ module _ (cells pool : List ℕ) (first end k n : ℕ) (own : Own cells pool end
 
   -- ---- the ways on by the mark
 
-  zero-waits : (a : ℕ) (w : Wait) → resting w ≡ true → waitRight w ≡ true → Stands ms (p .place) (cond (ltb 0 a) sureRest plain) → Good ms first k (suc n) (restsUnless p a w)
+  zero-waits : (a : ℕ) (w : Wait) → resting w ≡ true → waitRight w ≡ true → MarkAt ms (p .place) (cond (ltb 0 a) sureRest plain) → Good ms first k (suc n) (restsUnless p a w)
   unfolding restsUnless
   zero-waits zero w e q s = passes-good ms first k n p h r s
   zero-waits (suc a) w e q s = rw (ne-eqb (suc a) 0 (omega arith)) (rest-good ms first k n p h r (rw (lt-ltb 0 (suc a) (omega arith)) at s) w e q)
 
-  signal-waits : (l : Level) → Stands ms (p .place) plain → Good ms first k (suc n) (signalled p levels l)
+  signal-waits : (l : Level) → MarkAt ms (p .place) plain → Good ms first k (suc n) (signalled p levels l)
   unfolding signalled
   signal-waits l s =
-      by-cases (Good ms first k (suc n)) (sameLevel (l .on) (getD levels (l .signal) false)) (passes p) (rests p (Signal l))
+      by-cases (Good ms first k (suc n)) (sameLevel (l .on) (getD levels (l .signal) false)) (goesOn p) (rests p (Signal l))
       (λ e. passes-good ms first k n p h r s) (λ e. waits-good ms first k n p h r s (Signal l) refl refl)
 
   -- ---- a wait for data, and its neighbours with it
@@ -96,7 +95,7 @@ module _ (cells pool : List ℕ) (first end k n : ℕ) (own : Own cells pool end
       rw (marks-between cells end (p .place + 1), marks-between cells end (p .place + 1 + neighbours words), ← drop-drop (neighbours words) (p .place + 1) (take end cells))
       (neighbours-skip words)
 
-  data-waits : (s : Span) → s .from + (s .count + theirBytes words) ≤ dataLimit → 1 ≤ s .count → Stands ms (p .place) sureRest →
+  data-waits : (s : Span) → s .from + (s .count + theirBytes words) ≤ dataLimit → 1 ≤ s .count → MarkAt ms (p .place) sureRest →
       Good ms first k (suc n) (awaits p s (neighbours words) (theirBytes words))
   unfolding awaits progressRight
   data-waits s l some m =
@@ -115,9 +114,9 @@ module _ (cells pool : List ℕ) (first end k n : ℕ) (own : Own cells pool end
 
   -- ---- by the cell
 
-  by-cell : (from : ℕ) (c : Cell) → cellFits pool from c ≡ true → wordsEnd (from + tests.bytesIn c) words ≤ dataLimit →
-      ((s : Span) → c ≡ WaitData s → 1 ≤ s .count) → Stands ms (p .place) (cellMark c) → Good ms first k (suc n) (movedBy cells levels p c)
-  unfolding cellFits cellMark markOf statementOf movedBy tests.bytesIn follows
+  by-cell : (from : ℕ) (c : Cell) → cellFits pool from c ≡ true → wordsEnd (from + tests.bytesOfCell c) words ≤ dataLimit →
+      ((s : Span) → c ≡ WaitData s → 1 ≤ s .count) → MarkAt ms (p .place) (cellMark c) → Good ms first k (suc n) (movedBy cells levels p c)
+  unfolding cellFits cellMark markOf statementOf movedBy tests.bytesOfCell follows
   by-cell from Nothing f l some m = true-is-false (sym f)
   by-cell from (Send s) f l some m = passes-good ms first k n p h r m
   by-cell from (Loop a) f l some m = opened-good ms first k n p h r a m
@@ -137,7 +136,7 @@ module _ (cells pool : List ℕ) (first end k n : ℕ) (own : Own cells pool end
   by-cell from Nop f l some m = passes-good ms first k n p h r m
   by-cell from Unknown f l some m = true-is-false (sym f)
 
-  stands-here : Stands ms (p .place) (wordMark (getD cells (p .place) 0))
+  stands-here : MarkAt ms (p .place) (wordMark (getD cells (p .place) 0))
   stands-here =
       rw (← getD-take end cells (p .place) 0 live) (stands-map wordMark (take end cells) (p .place) 0 (omega (arith, length-take-le end cells (own .inside), live)))
 

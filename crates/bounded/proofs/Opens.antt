@@ -10,12 +10,12 @@ use lib.ListN.{getD, set, length, drop}
 use lib.Dec.{eqb}
 use borrow.Author.Tests.{eqb-true, eqb-false}
 use Rattle.figures.specs.Fragment.{Fragment}
-use Rattle.figures.specs.Flat.{Mark, beyond, nests}
+use Rattle.figures.specs.Flat.{Mark, beyond, marksNest}
 use lib.Seq.{getD-set-same, getD-set-other}
 use Rattle.bounded.proofs.Ahead.{opensOf}
-use Rattle.bounded.proofs.Stands.{Kept}
+use Rattle.bounded.proofs.Held.{Kept}
 
--- a store at or behind the depth changes no open loop
+-- a store at or after the depth changes no open loop
 past-left : (d e v : ℕ) (ls bs : List ℕ) → d ≤ e → opensOf d (set ls e v) bs ≡ opensOf d ls bs
 unfolding opensOf
 past-left zero e v ls bs h = refl
@@ -45,12 +45,12 @@ opens-less d l ls bs g = rw (getD-set-same ls d l 0, past-left d d l ls bs (le-r
 
 -- where the body of the j-th open loop begins, the marks close j + 1 loops
 pub bodies-nest : (ms : List Mark) (first d : ℕ) (ls bs : List ℕ) (fs : List Fragment) → Kept ms first fs (opensOf d ls bs) → (j : ℕ) → j < d
-    → nests (suc j) (drop (getD bs j 0) ms) ≡ true
+    → marksNest (suc j) (drop (getD bs j 0) ms) ≡ true
 unfolding opensOf
 bodies-nest ms first zero ls bs fs k j l = absurd (omega arith)
 bodies-nest ms first (suc d) ls bs fs k j l =
     by-choice (eqb j d)
-    (λ e. rw (eqb-true j d e) (subst (λ (n : ℕ). nests (suc n) (drop (getD bs d 0) ms) ≡ true) (opens-length d ls bs) (k .0 .nested)))
+    (λ e. rw (eqb-true j d e) (subst (λ (n : ℕ). marksNest (suc n) (drop (getD bs d 0) ms) ≡ true) (opens-length d ls bs) (k .0 .nested)))
     (λ e. bodies-nest ms first d ls bs (beyond fs) (k .1) j (omega (arith, eqb-false j d e)))
   where
     by-choice : {A : Type 0} (b : Bool) → (b ≡ true → A) → (b ≡ false → A) → A

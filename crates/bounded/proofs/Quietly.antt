@@ -10,18 +10,18 @@ use Rattle.reader.proofs.Tests.{true-is-false}
 use Rattle.language.specs.declared.Table.{Table}
 use Rattle.language.specs.Limits.{processLimit}
 use Rattle.process.specs.declared.State.{State}
-use Rattle.process.specs.declared.Refusal.the-variants.{SmallBuffer, BadTable}
-use Rattle.outcome.specs.declared.Outcome.the-variants.{Quiet, Refused}
+use Rattle.process.specs.declared.RunRefusal.the-variants.{SmallBuffer, BadTable}
+use Rattle.statement.specs.declared.outcome.Outcome.the-variants.{Quiet, Refused}
 use Rattle.runner.specs.declared.Drained.{Drained}
-use Rattle.process.specs.Events.{busy}
+use Rattle.process.specs.State.{busy}
 use Rattle.statement.specs.Moving.{moved, cellAt}
-use Rattle.runner.specs.Draining.{lowest, turn, does, writes, unaltered, drained}
+use Rattle.runner.specs.Draining.{lowest, turnOf, does, writes, unaltered, drained}
 use Rattle.runner.specs.Calls as calls
 use Rattle.runner.specs.Calls.{Box, drain, outcome}
 use Rattle.bounded.specs.Replies.{called, did}
 use Rattle.bounded.specs.Demand3.{QuietExactly}
 use Rattle.bounded.proofs.Several.{busy-lowest}
-use Rattle.bounded.proofs.Calling.{outcome-did}
+use Rattle.bounded.proofs.Keeping.{outcome-did}
 
 -- what the three tests of a drain decide, where a statement says anything but quiet
 quiet-only : (one found room : Bool) (s : State) (d : Drained) → did (d .outcome) ≡ true →
@@ -49,8 +49,8 @@ module _ (t : Table) (b : Box) (eight : length (b .state .processes) ≡ process
   quiet-exactly = record {
     only = λ e.
         let n : ℕ = length (writes (t .cells) (t .pool) (b .state) (b .counts)) in
-        let q = quiet-only (ltb (lowest (b .state .processes)) processLimit) (moved (t .cells) (b .state .levels) (turn (b .state)) .found) (ltb 127 room) (b .state) _
-        (outcome-did n (cellAt (t .cells) (turn (b .state))) .0) (said e)
+        let q = quiet-only (ltb (lowest (b .state .processes)) processLimit) (moved (t .cells) (b .state .levels) (turnOf (b .state)) .found) (ltb 127 room) (b .state) _
+        (outcome-did n (cellAt (t .cells) (turnOf (b .state))) .0) (said e)
         in
         (one-ready ∙ q .0, ltb-true 127 room (q .1));
     always = λ e l. rw (sym one-ready ∙ e, lt-ltb 127 room l);

@@ -14,13 +14,13 @@ use Rattle.language.proofs.Opened.{printed}
 use Rattle.accepted.specs.Accepted.{tableRight}
 use Rattle.process.specs.Waiting.{awake}
 use Rattle.statement.specs.Moving.{restsUnless, movedBy, moved}
-use Rattle.outcome.specs.Saying.{outcomeOf}
+use Rattle.statement.specs.Saying.{outcomeOf}
 use Rattle.runner.specs.Draining.{lowest, drained, stateAfter}
-use Rattle.starting.specs.Starting.{started, startedFrom, startState, noCounts, startEvent, startCounts}
+use Rattle.runner.specs.Starting.{started, startedFrom, startState, noCounts, startEvent, startCounts}
 use Rattle.runner.specs.Calls as calls
 use Rattle.runner.specs.Calls.{Box, Call, drain, boxed, startCall}
 use Rattle.bounded.specs.Replies.{Compiles}
-use Rattle.bounded.specs.Demand3.{tally, Run, next, after, fresh}
+use Rattle.bounded.specs.Demand3.{tally, CountedRun, nextCall, afterCalls, fresh}
 use Rattle.bounded.proofs.Accepting.{fitting}
 
 -- NOP and a rest: the stretch is 1
@@ -36,13 +36,13 @@ compiles = record { bytes = refl; result = refl }
 
 -- where a start is taken
 fresh-is : (t : Table) (b : Box) → tableRight t ≡ true → fresh t b ≡ record { box = boxed (startState (t .heads)) noCounts; done = λ i. 0 }
-unfolding fresh next tally calls.called startCall startEvent startCounts
+unfolding fresh nextCall tally calls.called startCall startEvent startCounts
 fresh-is t b e = rw e
 
 abbrev two : List Call
 two = drain 128 ∷ drain 128 ∷ []
 
 -- both are done, and the process rests
-reached : (b : Box) → after table (fresh table b) two .done 0 ≡ 2
-unfolding text table compiled printed answered laidOut headsOf wordsFrom poolOf endsFrom cellFor coded decoded cellOf timeRight after next tally calls.called startState startedFrom started awake drained lowest moved movedBy restsUnless outcomeOf stateAfter
-reached b = ap (λ (r : Run). after table r two .done 0) (fresh-is table b (fitting compiles .started)) ∙ refl
+reached : (b : Box) → afterCalls table (fresh table b) two .done 0 ≡ 2
+unfolding text table compiled printed answered laidOut headsOf wordsFrom poolOf endsFrom cellFor coded decoded cellOf timeRight afterCalls nextCall tally calls.called startState startedFrom started awake drained lowest moved movedBy restsUnless outcomeOf stateAfter
+reached b = ap (λ (r : CountedRun). afterCalls table r two .done 0) (fresh-is table b (fitting compiles .started)) ∙ refl

@@ -13,9 +13,10 @@ use Rattle.reader.proofs.Tests.{both}
 use Rattle.language.specs.declared.Heads.{Heads}
 use Rattle.process.specs.declared.Process.{Process}
 use Rattle.process.specs.Waiting.{ready, rangeRight}
-use Rattle.process.specs.Events.{any, every}
+use Rattle.process.specs.State.{any}
 use Rattle.runner.specs.Draining.{lowest, nobody}
-use Rattle.starting.specs.Starting.{started, startedFrom}
+use Rattle.runner.specs.Starting.{started, startedFrom}
+use Rattle.reader.specs.Bytes.{all}
 
 -- ---- the lowest that is ready
 
@@ -51,7 +52,7 @@ busy-lowest (p ∷ ps) = go (ready p) (busy-lowest ps)
 pub map-at : (g : Process → Process) → g nobody ≡ nobody → (ps : List Process) (i : ℕ) → getD (map g ps) i nobody ≡ g (getD ps i nobody)
 map-at g e ps i = rw e at (List·getD-map g ps i nobody)
 
-pub every-right : (ps : List Process) → ((i : ℕ) → i < length ps → rangeRight (getD ps i nobody) ≡ true) → every rangeRight ps ≡ true
+pub every-right : (ps : List Process) → ((i : ℕ) → i < length ps → rangeRight (getD ps i nobody) ≡ true) → all rangeRight ps ≡ true
 every-right [] h = refl
 every-right (p ∷ ps) h = both (rangeRight p) _ (h 0 (omega arith)) (every-right ps (λ i l. h (suc i) (omega arith)))
 

@@ -11,19 +11,19 @@ use lib.ListN.{length, getD, set, drop, length-set}
 use borrow.Author.Tests.{ltb-true, lt-ltb, le-leb, ne-eqb}
 use Rattle.reader.proofs.Tests.{true-is-false}
 use Rattle.figures.specs.Fragment.{Fragment}
-use Rattle.figures.specs.Flat.{Mark, plain, sureRest, opens, closes, here, beyond, before, deepest, nests}
-use Rattle.figures.specs.Scan.{readAt, fragmentAt, Stands}
-use Rattle.figures.specs.Written.{times, repeated, written, run}
+use Rattle.figures.specs.Flat.{Mark, plain, sureRest, opens, closes, here, beyond, markBefore, deepest, marksNest}
+use Rattle.figures.specs.inside.Scan.{readAt, fragmentAt, MarkAt}
+use Rattle.figures.specs.Written.{repeatedTimes, repeated, written, run}
 use Rattle.figures.proofs.Growing.{run-at-least}
 use Rattle.figures.proofs.Scanning.{stands-inside, read-mark}
 use Rattle.language.specs.Limits.{loopLimit}
 use Rattle.process.specs.declared.Wait.{Wait}
 use Rattle.process.specs.declared.Process.{Process}
 use Rattle.process.specs.Waiting.{readyWait, ready, waitRight}
-use Rattle.loops.specs.Loops.{opened, pass, closed}
-use Rattle.statement.specs.Moving.{passes, rests}
+use Rattle.statement.specs.Loops.{opened, pass, closed}
+use Rattle.statement.specs.Moving.{goesOn, rests}
 use Rattle.bounded.proofs.Ahead.{Open, opensOf, more, whole, onward, ahead, run-less}
-use Rattle.bounded.proofs.Stands.{Back, Kept, Sits, resting, Held, Good}
+use Rattle.bounded.proofs.Held.{Back, Kept, Sits, resting, Held, Good}
 use Rattle.bounded.proofs.Opens.{opens-length, opens-more, opens-less}
 use Rattle.bounded.proofs.Ways.{goes-good, rests-good, enter-good, again-good}
 
@@ -41,34 +41,34 @@ module _ (ms : List Mark) (first k n : ℕ) where
     pub counts : suc n ≤ suc k
     counts = omega (arith, run-at-least n (ahead ms 0 (readAt ms (p .place)) loops), h .fine .going r 0)
 
-    module _ {m : Mark} (s : Stands ms (p .place) m) where
-      nested-here : nests (length loops) (m ∷ drop (p .place + 1) ms) ≡ true
-      nested-here = ap (nests (length loops)) (sym s) ∙ h .fine .sits .nested
+    module _ {m : Mark} (s : MarkAt ms (p .place) m) where
+      nested-here : marksNest (length loops) (m ∷ drop (p .place + 1) ms) ≡ true
+      nested-here = ap (marksNest (length loops)) (sym s) ∙ h .fine .sits .nested
 
-      kept-here : Kept ms first (beyond (before m (readAt ms (p .place + 1)))) loops
+      kept-here : Kept ms first (beyond (markBefore m (readAt ms (p .place + 1)))) loops
       kept-here = rw (read-mark ms (p .place) s) at (h .fine .sits .kept)
 
-      ahead-here : (j : ℕ) → run n (ahead ms j (before m (readAt ms (p .place + 1))) loops) ≤ k
+      ahead-here : (j : ℕ) → run n (ahead ms j (markBefore m (readAt ms (p .place + 1))) loops) ≤ k
       ahead-here j = rw (read-mark ms (p .place) s) at (h .fine .going r j)
 
       -- the next place, with some loops open
-      sits-next : (os : List Open) → length os ≤ deepest → nests (length os) (drop (p .place + 1) ms) ≡ true → Kept ms first (beyond (readAt ms (p .place + 1))) os →
+      sits-next : (os : List Open) → length os ≤ deepest → marksNest (length os) (drop (p .place + 1) ms) ≡ true → Kept ms first (beyond (readAt ms (p .place + 1))) os →
           Sits ms first (p .place + 1) os
       sits-next os f e kp =
           record { nested = e; few = f; low = omega (arith, h .fine .sits .low); high = omega (arith, stands-inside ms (p .place) s); kept = kp }
 
     -- ---- a statement that is no sure rest: on to the next, or a rest
 
-    module _ (s : Stands ms (p .place) plain) where
+    module _ (s : MarkAt ms (p .place) plain) where
       plain-sits : Sits ms first (p .place + 1) loops
-      unfolding nests before
+      unfolding marksNest markBefore
       plain-sits = sits-next s loops (h .fine .sits .few) (nested-here s) (kept-here s)
 
       plain-ahead : (j : ℕ) → run (suc n) (ahead ms j (readAt ms (p .place + 1)) loops) ≤ k
-      unfolding before written run
+      unfolding markBefore written run
       plain-ahead j = ahead-here s j
 
-      pub passes-good : Good ms first k (suc n) (passes p)
+      pub passes-good : Good ms first k (suc n) (goesOn p)
       passes-good = goes-good ms first k p (h .ends) (suc n) (p .place + 1) (p .depth) (p .left) (p .back) loops refl (h .left) (h .back) counts plain-sits plain-ahead
 
       pub waits-good : (w : Wait) → resting w ≡ true → waitRight w ≡ true → Good ms first k (suc n) (rests p w)
@@ -78,13 +78,13 @@ module _ (ms : List Mark) (first k n : ℕ) where
 
     -- ---- a sure rest
 
-    module _ (s : Stands ms (p .place) sureRest) where
+    module _ (s : MarkAt ms (p .place) sureRest) where
       pub sure-sits : Sits ms first (p .place + 1) loops
-      unfolding nests before
+      unfolding marksNest markBefore
       sure-sits = sits-next s loops (h .fine .sits .few) (nested-here s) (kept-here s)
 
       pub sure-ahead : (j : ℕ) → run 0 (ahead ms j (readAt ms (p .place + 1)) loops) ≤ k
-      unfolding before written run
+      unfolding markBefore written run
       sure-ahead j = omega (arith, ahead-here s j)
 
       pub rest-good : (w : Wait) → resting w ≡ true → waitRight w ≡ true → Good ms first k (suc n) (rests p w)
@@ -93,8 +93,8 @@ module _ (ms : List Mark) (first k n : ℕ) where
 
     -- ---- LOOP
 
-    pub opened-good : (a : ℕ) → Stands ms (p .place) (opens a) → Good ms first k (suc n) (opened p (p .place + 1) a)
-    unfolding opened nests before written run
+    pub opened-good : (a : ℕ) → MarkAt ms (p .place) (opens a) → Good ms first k (suc n) (opened p (p .place + 1) a)
+    unfolding opened marksNest markBefore written run
     opened-good a s =
         let i : ℕ = p .place + 1 in
         let st : List Fragment = readAt ms i in
@@ -121,7 +121,7 @@ module _ (ms : List Mark) (first k n : ℕ) where
         Sits ms first (i + 1) (opensOf d ls bs) → Back ms first (readAt ms (i + 1)) (length (opensOf d ls bs)) (getD bs d 0) →
         ((m : ℕ) → run (suc n) (more m l (whole m (fragmentAt ms (getD bs d 0))) ++ ahead ms m (readAt ms (i + 1)) (opensOf d ls bs)) ≤ k) →
         Good ms first k (suc n) (pass (deep (suc d)) (i + 1) d (getD bs d 0) l)
-    unfolding pass more repeated times opensOf
+    unfolding pass more repeated repeatedTimes opensOf
     pass-good d zero q dl lsl bsl en c s bk h =
         again-good ms first k (suc n) (getD bs d 0) zero (readAt ms (i + 1)) (opensOf d ls bs) (omega (arith, opens-length d ls bs)) bk (s .kept) h
         (deep (suc d)) en c ls (rw q) lsl bsl
@@ -131,8 +131,8 @@ module _ (ms : List Mark) (first k n : ℕ) where
         (again-good ms first k (suc n) (getD bs d 0) (suc l) (readAt ms (i + 1)) (opensOf d ls bs) (omega (arith, opens-length d ls bs)) bk (s .kept) h
         (deep (suc d)) en c (set ls d (suc l)) (opens-less d (suc l) ls bs (omega arith)) (length-set ls d (suc l) ∙ lsl) bsl)
 
-    close : (d : ℕ) → Held ms first k n (deep d) → readyWait w ≡ true → Stands ms i closes → Good ms first k (suc n) (closed (deep d) (i + 1))
-    unfolding closed nests opensOf before onward written run
+    close : (d : ℕ) → Held ms first k n (deep d) → readyWait w ≡ true → MarkAt ms i closes → Good ms first k (suc n) (closed (deep d) (i + 1))
+    unfolding closed marksNest opensOf markBefore onward written run
     close zero h r s = true-is-false (sym (nested-here (deep zero) h r s))
     close (suc d) h r s =
         let kp = kept-here (deep (suc d)) h r s in
@@ -143,5 +143,5 @@ module _ (ms : List Mark) (first k n : ℕ) where
         (kp .0)
         (ahead-here (deep (suc d)) h r s))
 
-  pub closed-good : (p : Process) → Held ms first k n p → ready p ≡ true → Stands ms (p .place) closes → Good ms first k (suc n) (closed p (p .place + 1))
+  pub closed-good : (p : Process) → Held ms first k n p → ready p ≡ true → MarkAt ms (p .place) closes → Good ms first k (suc n) (closed p (p .place + 1))
   closed-good p h r s = close (p .place) (p .end) (p .wait) (p .left) (p .back) (p .depth) h r s

@@ -17,18 +17,18 @@ use Rattle.process.specs.declared.Progress.{Progress}
 use Rattle.process.specs.declared.Wait.{Wait}
 use Rattle.process.specs.declared.Wait.the-variants.{Ready, Over, Ticks, Bytes, Data, ClockValue, Signal}
 use Rattle.process.specs.declared.Process.{Process}
-use Rattle.process.specs.Matching.{last, longest, progress, advance}
-use Rattle.process.specs.Waiting.{awake, tickedWait, ticked, awaited, matchedTo, matchedWait, byteWait, byteTaken, progressRight, waitRight, matches, readingWait, readingTaken, sets, levelWait, levelTaken}
+use Rattle.process.specs.Matching.{last, longestMatch, progress, advance}
+use Rattle.process.specs.Waiting.{awake, tickedWait, ticked, awaited, matchedTo, matchedWait, byteWait, byteTaken, progressRight, waitRight, matches, readingWait, readingTaken, setsLevel, levelWait, levelTaken}
 use Rattle.bounded.proofs.Ahead.{opensOf}
-use Rattle.bounded.proofs.Stands.{resting, Held}
+use Rattle.bounded.proofs.Held.{resting, Held}
 use Rattle.bounded.proofs.Ways.{awake-right, awake-fine, rest-fine}
 
 -- ---- one more byte matches at most one more
 
-longest-few : (d xs : List ℕ) (n : ℕ) → longest d xs n ≤ n
+longest-few : (d xs : List ℕ) (n : ℕ) → longestMatch d xs n ≤ n
 longest-few d xs zero = omega arith
 longest-few d xs (suc n) =
-    by-cases (λ (m : ℕ). m ≤ suc n) (same (take (suc n) d) (last (suc n) xs)) (suc n) (longest d xs n) (λ e. omega arith) (λ e. omega (arith, longest-few d xs n))
+    by-cases (λ (m : ℕ). m ≤ suc n) (same (take (suc n) d) (last (suc n) xs)) (suc n) (longestMatch d xs n) (λ e. omega arith) (λ e. omega (arith, longest-few d xs n))
 
 advance-few : (d : List ℕ) (k b : ℕ) → advance d k b ≤ k + 1
 unfolding advance progress
@@ -123,7 +123,7 @@ module _ (ms : List Mark) (first k n i e d : ℕ) (ls bs : List ℕ) where
   level-held l (Bytes m) h = stays (Bytes m) h
   level-held l (Data m) h = stays (Data m) h
   level-held l (ClockValue c) h = stays (ClockValue c) h
-  level-held l (Signal s) h = wakes-if (sets s l) (Signal s) (Signal s) refl refl (λ r. refl) h
+  level-held l (Signal s) h = wakes-if (setsLevel s l) (Signal s) (Signal s) refl refl (λ r. refl) h
 
 -- the same of a process as a whole
 module _ (ms : List Mark) (first k n : ℕ) (p : Process) (h : Held ms first k n p) where

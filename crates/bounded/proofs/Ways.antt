@@ -11,19 +11,19 @@ use lib.ListN.{length, drop, drop-of-length-le}
 use borrow.Author.Tests.{ltb-true, lt-ltb}
 use Rattle.reader.proofs.Tests.{true-is-false}
 use Rattle.figures.specs.Fragment.{Fragment}
-use Rattle.figures.specs.Flat.{Mark, beyond, nests}
-use Rattle.figures.specs.Scan.{readAt, fragmentAt}
+use Rattle.figures.specs.Flat.{Mark, beyond, marksNest}
+use Rattle.figures.specs.inside.Scan.{readAt, fragmentAt}
 use Rattle.figures.specs.Written.{repeated, run}
 use Rattle.language.specs.Limits.{loopLimit}
 use Rattle.process.specs.declared.Wait.{Wait}
 use Rattle.process.specs.declared.Wait.the-variants.{Ready, Over, Ticks, Bytes, Data, ClockValue, Signal}
 use Rattle.process.specs.declared.Process.{Process}
 use Rattle.process.specs.Waiting.{readyWait, waitRight, awake}
-use Rattle.loops.specs.Ways.{goes}
-use Rattle.loops.specs.Loops.{again}
+use Rattle.statement.specs.Ways.{goes}
+use Rattle.statement.specs.Loops.{backTo}
 use Rattle.statement.specs.Moving.{restsAt}
 use Rattle.bounded.proofs.Ahead.{Open, opensOf, whole, onward, ahead, run-less, enter}
-use Rattle.bounded.proofs.Stands.{Back, Kept, Sits, resting, Fine, Good}
+use Rattle.bounded.proofs.Held.{Back, Kept, Sits, resting, Fine, Good}
 
 -- ---- ready at a place, or over
 
@@ -62,8 +62,8 @@ resting-still (ClockValue c) e = refl
 resting-still (Signal l) e = refl
 
 -- a place from which on a loop is closed is no end: so is the first statement of an open loop's body
-pub inside : (d i : ℕ) (ms : List Mark) → nests (suc d) (drop i ms) ≡ true → i < length ms
-unfolding nests
+pub inside : (d i : ℕ) (ms : List Mark) → marksNest (suc d) (drop i ms) ≡ true → i < length ms
+unfolding marksNest
 inside d i ms e = go (decLt i (length ms))
   where
     go : Dec (i < length ms) → i < length ms
@@ -111,7 +111,7 @@ module _ (ms : List Mark) (first k : ℕ) where
       held = record { fine = rest-fine n i (opensOf (p .depth) (p .left) (p .back)) w r c f s h; left = l; back = b; ends = e; right = q };
     }
 
-  -- into a pass of a loop whose body begins at b, l passes being ahead: st is read behind its END
+  -- into a pass of a loop whose body begins at b, l passes being ahead: st is read after its END
   module _ (n b l : ℕ) (st : List Fragment) (os : List Open) (f : length os < loopLimit) (bk : Back ms first st (length os) b) (kp : Kept ms first (beyond st) os)
       (h : (m : ℕ) → run n (repeated m l (whole m (fragmentAt ms b)) ++ ahead ms m st os) ≤ k) where
     abbrev pub inner : List Open
@@ -131,8 +131,8 @@ module _ (ms : List Mark) (first k : ℕ) where
 
     -- back to it from its END
     pub again-good : (p : Process) → p .end ≡ length ms → n ≤ suc k → (ls : List ℕ) → opensOf (p .depth) ls (p .back) ≡ inner →
-        length ls ≡ loopLimit → length (p .back) ≡ loopLimit → Good ms first k n (again p b ls)
-    unfolding again
+        length ls ≡ loopLimit → length (p .back) ≡ loopLimit → Good ms first k n (backTo p b ls)
+    unfolding backTo
     again-good p e c ls o l b′ =
         let lt : b < p .end = omega (arith, inside (length os) b ms (bk .nested)) in
         rw (lt-ltb b (p .end) lt) (enter-good p e c (p .depth) ls (p .back) o l b′)

@@ -7,13 +7,12 @@ use mathlib.Core.List.{List, [], _∷_}
 use Prim.Native.Nat.{ℕ, suc, _+_, _≤_, _<_}
 use lib.ListN.{length, getD, drop}
 use lib.Dec.{eqb, ltb}
-use Rattle.figures.specs.Flat.{Mark, nests}
-use Rattle.runs.specs.Cap.{over}
+use Rattle.figures.specs.Flat.{Mark, marksNest}
+use Rattle.figures.specs.Cap.{over}
 use Rattle.language.specs.declared.Heads.{Heads}
 use Rattle.language.specs.declared.Table.{Table}
-use Rattle.language.specs.Limits.{loopLimit, processLimit}
-use Rattle.stretch.specs.Marks.{begins, stops}
-use Rattle.stretch.specs.Scan.{marksTo}
+use Rattle.language.specs.Limits.{loopLimit, processLimit, drainLeast}
+use Rattle.stretch.specs.Marks.{beginsAt, endsAt, marksTo}
 use Rattle.process.specs.declared.Wait.the-variants.{Over}
 use Rattle.process.specs.declared.Process.{Process}
 use Rattle.process.specs.declared.State.{State}
@@ -21,8 +20,8 @@ use Rattle.process.specs.declared.Taken.{Taken}
 use Rattle.process.specs.declared.Taken.the-variants as taken
 use Rattle.process.specs.declared.Received.{Received}
 use Rattle.process.specs.declared.Received.the-variants as received
-use Rattle.outcome.specs.declared.Outcome.the-variants.{Quiet}
-use Rattle.process.specs.Events.{busy}
+use Rattle.statement.specs.declared.outcome.Outcome.the-variants.{Quiet}
+use Rattle.process.specs.State.{busy}
 use Rattle.runner.specs.Draining.{lowest, nobody}
 use Rattle.runner.specs.Calls as calls
 use Rattle.runner.specs.Calls.{Box, Call, start, drain, Reply, event, outcome}
@@ -49,32 +48,32 @@ tally s (outcome o bytes) f i = cond (did o) (cond (eqb i (lowest (s .processes)
 -- ---- a sequence of calls
 
 -- a box, and beside it these counts
-pub record Run : Type 0 where
+pub record CountedRun : Type 0 where
   pub box : Box
   pub done : ℕ → ℕ
 
 -- "with table and states handed on unaltered"
-unfoldable pub next : Table → Run → Call → Run
-next t r q = record { box = called t q (r .box) .box; done = tally (r .box .state) (called t q (r .box) .reply) (r .done) }
+unfoldable pub nextCall : Table → CountedRun → Call → CountedRun
+nextCall t r q = record { box = called t q (r .box) .box; done = tally (r .box .state) (called t q (r .box) .reply) (r .done) }
 
 -- a run after some more calls
-unfoldable pub after : Table → Run → List Call → Run
-after t r [] = r
-after t r (q ∷ qs) = after t (next t r q) qs
+unfoldable pub afterCalls : Table → CountedRun → List Call → CountedRun
+afterCalls t r [] = r
+afterCalls t r (q ∷ qs) = afterCalls t (nextCall t r q) qs
 
 -- "started afresh", whatever the box held before
-unfoldable pub fresh : Table → Box → Run
-fresh t b = next t (record { box = b; done = λ i. 0 }) start
+unfoldable pub fresh : Table → Box → CountedRun
+fresh t b = nextCall t (record { box = b; done = λ i. 0 }) start
 
 -- ---- what holds after any of them
 
 -- a process's own statements lie from one place up to another; one that the table does not have has none
 abbrev pub firstOf : Heads → ℕ → ℕ
-firstOf h i = cond (ltb i (h .processes)) (begins h i) 0
+firstOf h i = cond (ltb i (h .processes)) (beginsAt h i) 0
 
 -- where a process ends
 abbrev pub endOf : Heads → ℕ → ℕ
-endOf h i = cond (ltb i (h .processes)) (stops h i) 0
+endOf h i = cond (ltb i (h .processes)) (endsAt h i) 0
 
 -- the marks of the cells up to the end of process i: a LOOP opens, an END closes
 abbrev pub marksOf : Table → ℕ → List Mark
@@ -86,19 +85,19 @@ pub record Safe (t : Table) (k i n : ℕ) (p : Process) : Type 0 where
   pub low : firstOf (t .heads) i ≤ p .place
   pub high : p .place ≤ endOf (t .heads) i
   pub few : p .depth ≤ loopLimit
-  pub enclosed : nests (p .depth) (drop (p .place) (marksOf t i)) ≡ true
-  pub bodies : (j : ℕ) → j < p .depth → nests (suc j) (drop (getD (p .back) j 0) (marksOf t i)) ≡ true
+  pub enclosed : marksNest (p .depth) (drop (p .place) (marksOf t i)) ≡ true
+  pub bodies : (j : ℕ) → j < p .depth → marksNest (suc j) (drop (getD (p .back) j 0) (marksOf t i)) ≡ true
   pub brief : n ≤ over
   pub exact : n ≤ k + 1
   pub absent : t .heads .processes ≤ i → p .wait ≡ Over
 
 -- "quiet exactly when none is ready"; "a quiet drain with a small buffer is 24"
 pub record QuietExactly (t : Table) (b : Box) (room : ℕ) : Type 0 where
-  pub only : called t (drain room) b .reply ≡ outcome Quiet [] → (busy (b .state) ≡ false) × (127 < room)
-  pub always : busy (b .state) ≡ false → 127 < room → called t (drain room) b .reply ≡ outcome Quiet []
+  pub only : called t (drain room) b .reply ≡ outcome Quiet [] → (busy (b .state) ≡ false) × (drainLeast ≤ room)
+  pub always : busy (b .state) ≡ false → drainLeast ≤ room → called t (drain room) b .reply ≡ outcome Quiet []
 
 -- there are eight processes, each safe; whichever call comes next, it is not answered 25; a drain is quiet when it should be
-pub record Bounded (t : Table) (k : ℕ) (r : Run) : Type 0 where
+pub record Bounded (t : Table) (k : ℕ) (r : CountedRun) : Type 0 where
   pub eight : length (r .box .state .processes) ≡ processLimit
   pub safe : (i : ℕ) → i < processLimit → Safe t k i (r .done i) (getD (r .box .state .processes) i nobody)
   pub found : (q : Call) → replyNumber (called t q (r .box) .reply) ≡ 25 → ⊥

@@ -14,9 +14,9 @@ use Rattle.process.specs.declared.Taken.{Taken}
 use Rattle.process.specs.declared.Taken.the-variants as taken
 use Rattle.process.specs.declared.Received.{Received}
 use Rattle.process.specs.declared.Received.the-variants as received
-use Rattle.outcome.specs.declared.Outcome.{Outcome}
-use Rattle.outcome.specs.declared.Outcome.the-variants.{Quiet, Sent, Recorded, Rts, Fchange, Pause, Resume, Plain, Refused}
-use Rattle.process.specs.Events.{refusalNumber}
+use Rattle.statement.specs.declared.outcome.Outcome.{Outcome}
+use Rattle.statement.specs.declared.outcome.Outcome.the-variants.{Quiet, Sent, Recorded, Rts, Fchange, Pause, Resume, Plain, Refused}
+use Rattle.process.specs.State.{runRefusalNumber}
 use Rattle.runner.specs.Calls as calls
 use Rattle.runner.specs.Calls.{Box, Call, start, tick, byte, reading, level, drain, Reply, event, outcome, Called}
 
@@ -34,12 +34,12 @@ called = calls.called tableRight
 -- "is answered 25": the number that an event is refused by, 0 where it is taken
 abbrev pub takenNumber : Taken → ℕ
 takenNumber taken.Took = 0
-takenNumber (taken.Refused r) = refusalNumber r
+takenNumber (taken.Refused r) = runRefusalNumber r
 
 -- the number that a received byte is answered by, 0 where it is taken
 abbrev pub receivedNumber : Received → ℕ
 receivedNumber (received.Took c) = 0
-receivedNumber (received.Refused r) = refusalNumber r
+receivedNumber (received.Refused r) = runRefusalNumber r
 
 -- likewise of a drain
 abbrev pub outcomeNumber : Outcome → ℕ
@@ -51,7 +51,7 @@ outcomeNumber Fchange = 0
 outcomeNumber Pause = 0
 outcomeNumber Resume = 0
 outcomeNumber Plain = 0
-outcomeNumber (Refused r) = refusalNumber r
+outcomeNumber (Refused r) = runRefusalNumber r
 
 -- likewise of any call
 unfoldable pub replyNumber : Reply → ℕ
@@ -84,10 +84,10 @@ tookByte (received.Took c) = true
 tookByte (received.Refused r) = false
 
 -- likewise any call
-unfoldable pub took : Reply → Bool
-took (event a) = tookEvent a
-took (calls.received a) = tookByte a
-took (outcome o bytes) = false
+unfoldable pub wasTaken : Reply → Bool
+wasTaken (event a) = tookEvent a
+wasTaken (calls.received a) = tookByte a
+wasTaken (outcome o bytes) = false
 
 -- a call that is an event
 abbrev pub isEvent : Call → Bool

@@ -1,1 +1,14 @@
 pub mod Long
+pub mod Asking
+pub mod Padding
+pub mod Bodies
+pub mod Standing
+pub mod Nesting
+pub mod Writing
+pub mod Beginning
+pub mod Setting
+pub mod Stepping
+pub mod Texts
+pub mod Lining
+pub mod Ending
+pub mod Folding

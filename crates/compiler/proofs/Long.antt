@@ -4,7 +4,7 @@ use mathlib.Core.Path.{_≡_}
 use mathlib.Core.List.{List}
 use lib.ListN.{length}
 use borrow.Author.Tests.{lt-leb}
-use Rattle.language.specs.declared.Fault.the-variants.{TextTooLong}
+use Rattle.language.specs.declared.TextFault.the-variants.{TextTooLong}
 use Rattle.language.specs.Limits.{textLimit}
 use Rattle.language.specs.Draft.{refused, resultOf}
 use Rattle.language.specs.Answer.{answered, scriptFrom, compiled}

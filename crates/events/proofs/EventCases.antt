@@ -8,9 +8,10 @@ use lib.ListN.{set}
 use Rattle.language.specs.Cell.{level}
 use Rattle.process.specs.declared.Reading.{Reading}
 use Rattle.process.specs.declared.State.{State}
-use Rattle.process.specs.declared.Refusal.the-variants.{Busy, BadReading, NoSuchSignal}
+use Rattle.process.specs.declared.RunRefusal.the-variants.{Busy, BadReading, NoSuchSignal}
 use Rattle.process.specs.Waiting.{ready, ticked, readingTaken, levelTaken}
-use Rattle.process.specs.Events.{any, busy, refused, took, withProcesses, tickEvent, readingRight, readingEvent, levelEvent}
+use Rattle.process.specs.State.{any, busy, withProcesses}
+use Rattle.events.specs.Events.{refused, took, tickEvent, readingRight, readingEvent, levelEvent}
 
 module _ (s : State) (h : any ready (s .processes) ≡ true) where
   pub tick-busy : tickEvent s ≡ refused s Busy

@@ -1,1 +1,5 @@
 pub mod EventCases
+pub mod Copying
+pub mod DataCases
+pub mod Overlaps
+pub mod ByteCases

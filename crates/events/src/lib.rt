@@ -2,52 +2,60 @@
 ghost use mathlib.Core.Path.{_≡_};
 ghost use mathlib.Core.List.{map};
 ghost use Rattle.process.specs.Waiting.{ticked, readingTaken, levelTaken};
-ghost use Rattle.process.specs.Events.{refused, tickEvent, readingRight, readingEvent, levelEvent};
+ghost use Rattle.events.specs.Events.{refused, tickEvent, readingRight, readingEvent, levelEvent};
 use language::Level;
-use language::PROCESSES;
+use language::PROCESS_PLACES;
+use language::SIGNALS;
 use process::Event;
 use process::Process;
 use process::Reading;
-use process::Refusal;
+use process::RunRefusal;
 use process::State;
 use process::Taken;
 use process::taking::any_ready;
-use process::waits::both;
+use reader::widths::both;
 
-fn all_ticked(ps: [Process; PROCESSES]) -> [Process; PROCESSES]
+// How many signals there are, as wide as the number of one.
+const COUNT: u8 = SIGNALS as u8;
+
+mod matching;
+pub mod receiving;
+mod recording;
+
+fn all_ticked(ps: [Process; PROCESS_PLACES]) -> [Process; PROCESS_PLACES]
     ensures { λ r. ⌜ r ≡ map ticked ps ⌝ }
 {
     let mut next = ps;
-    for i in 0..8 {
+    for i in 0..PROCESS_PLACES {
         let p = next[i];
         next[i] = p.tick();
     }
     next
 }
 
-fn all_read(ps: [Process; PROCESSES], r: Reading) -> [Process; PROCESSES]
+fn all_read(ps: [Process; PROCESS_PLACES], r: Reading) -> [Process; PROCESS_PLACES]
     ensures { λ n. ⌜ n ≡ map (readingTaken r) ps ⌝ }
 {
     let mut next = ps;
-    for i in 0..8 {
+    for i in 0..PROCESS_PLACES {
         let p = next[i];
         next[i] = p.read(r);
     }
     next
 }
 
-fn all_level(ps: [Process; PROCESSES], e: Level) -> [Process; PROCESSES]
+fn all_level(ps: [Process; PROCESS_PLACES], e: Level) -> [Process; PROCESS_PLACES]
     ensures { λ n. ⌜ n ≡ map (levelTaken e) ps ⌝ }
 {
     let mut next = ps;
-    for i in 0..8 {
+    for i in 0..PROCESS_PLACES {
         let p = next[i];
         next[i] = p.level(e);
     }
     next
 }
 
-fn refuse(s: State, why: Refusal) -> Event
+fn refuse(s: State, why: RunRefusal) -> Event
     ensures { λ r. ⌜ r ≡ refused s why ⌝ }
 {
     Event {
@@ -62,7 +70,7 @@ pub fn tick(s: State) -> Event
 {
     let ps = s.processes;
     if any_ready(ps) {
-        return refuse(s, Refusal::Busy);
+        return refuse(s, RunRefusal::Busy);
     }
     let mut t = s;
     let next = all_ticked(ps);
@@ -87,7 +95,7 @@ pub fn read_clock(s: State, r: Reading) -> Event
 {
     let ps = s.processes;
     if any_ready(ps) {
-        return refuse(s, Refusal::Busy);
+        return refuse(s, RunRefusal::Busy);
     }
     if reading_right(r) {
         let mut t = s;
@@ -99,7 +107,7 @@ pub fn read_clock(s: State, r: Reading) -> Event
             answer: Taken::Took,
         };
     }
-    refuse(s, Refusal::BadReading)
+    refuse(s, RunRefusal::BadReading)
 }
 
 // A level of a signal, 0 for CTS and 1 to 4 for EX.
@@ -108,9 +116,9 @@ pub fn set_level(s: State, signal: u8, on: bool) -> Event
 {
     let ps = s.processes;
     if any_ready(ps) {
-        return refuse(s, Refusal::Busy);
+        return refuse(s, RunRefusal::Busy);
     }
-    if signal < 5 {
+    if signal < COUNT {
         let at = signal as usize;
         let next = all_level(ps, Level { signal, on });
         let mut levels = s.levels;
@@ -123,5 +131,5 @@ pub fn set_level(s: State, signal: u8, on: bool) -> Event
             answer: Taken::Took,
         };
     }
-    refuse(s, Refusal::NoSuchSignal)
+    refuse(s, RunRefusal::NoSuchSignal)
 }

@@ -3,9 +3,9 @@ use mathlib.Core.Path.{_≡_, refl, ap, sym, _∙_}
 use mathlib.Core.Bool.{Bool, true, false, cond}
 use Prim.Native.Nat.{ℕ, _+_, max}
 use Rattle.figures.specs.declared.Figures.{Figures}
-use Rattle.figures.specs.Figures.{fig, capped, join, joined}
-use Rattle.runs.specs.Cap.{cap}
-use Rattle.runs.proofs.Cap.{cap-cap, cap-add, cap-max}
+use Rattle.figures.specs.Figures.{fig, capped, join, joinedCapped}
+use Rattle.figures.specs.Cap.{cap}
+use Rattle.figures.proofs.Cap.{cap-cap, cap-add, cap-max}
 use Rattle.figures.proofs.Associative.{fig-path, join-assoc}
 
 pub capped-capped : (a : Figures) → capped (capped a) ≡ capped a
@@ -33,15 +33,15 @@ parts false ar br be af al ag bf bl bg = fig-path refl refl (cap-cap af) (cap-ca
 parts true ar br be af al ag bf bl bg = fig-path refl refl (cap-first ar af bf) (cap-last ar br al af bf bl) (cap-longest ar ag bg al af bf)
 
 -- the parts may be capped first, both or either
-pub joined-capped : (a b : Figures) → joined (capped a) (capped b) ≡ joined a b
+pub joined-capped : (a b : Figures) → joinedCapped (capped a) (capped b) ≡ joinedCapped a b
 joined-capped a b = parts (a .ends) (a .rests) (b .rests) (b .ends) (a .first) (a .last) (a .longest) (b .first) (b .last) (b .longest)
 
-pub joined-capped-left : (a b : Figures) → joined (capped a) b ≡ joined a b
-joined-capped-left a b = sym (joined-capped (capped a) b) ∙ ap (λ (x : Figures). joined x (capped b)) (capped-capped a) ∙ joined-capped a b
+pub joined-capped-left : (a b : Figures) → joinedCapped (capped a) b ≡ joinedCapped a b
+joined-capped-left a b = sym (joined-capped (capped a) b) ∙ ap (λ (x : Figures). joinedCapped x (capped b)) (capped-capped a) ∙ joined-capped a b
 
-pub joined-capped-right : (a b : Figures) → joined a (capped b) ≡ joined a b
-joined-capped-right a b = sym (joined-capped a (capped b)) ∙ ap (λ (x : Figures). joined (capped a) x) (capped-capped b) ∙ joined-capped a b
+pub joined-capped-right : (a b : Figures) → joinedCapped a (capped b) ≡ joinedCapped a b
+joined-capped-right a b = sym (joined-capped a (capped b)) ∙ ap (λ (x : Figures). joinedCapped (capped a) x) (capped-capped b) ∙ joined-capped a b
 
 -- so the capped join is associative too
-pub joined-assoc : (a b c : Figures) → joined (joined a b) c ≡ joined a (joined b c)
+pub joined-assoc : (a b c : Figures) → joinedCapped (joinedCapped a b) c ≡ joinedCapped a (joinedCapped b c)
 joined-assoc a b c = joined-capped-left (join a b) c ∙ ap capped (join-assoc a b c) ∙ sym (joined-capped-right a (join b c))

@@ -5,14 +5,14 @@ use mathlib.Core.List.{List, [], _∷_}
 use native.Mathlib.Omega.{arith}
 use lib.Dec.{T, eqb, eqb→eq, leb}
 use borrow.Author.Tests.{leb-true, leb-false}
-use Rattle.figures.specs.Flat.{fragment, fragments, before}
-use Rattle.runs.specs.Cap.{limit}
-use Rattle.figures.specs.Figures.{capped, join, again, looped, figures, stretchOf}
+use Rattle.figures.specs.Flat.{fragment, fragments, markBefore}
+use Rattle.figures.specs.Cap.{limit}
+use Rattle.figures.specs.Figures.{capped, join, again, looped, figures, fragmentStretch}
 use Rattle.figures.specs.Cases.{Case, cases, Holds, AllHold}
 use Rattle.figures.proofs.Stretches.{stretch-is, over-is}
 
 abbrev right : Case → Bool
-right c = eqb (stretchOf (fragment (c .process))) (c .stretch)
+right c = eqb (fragmentStretch (fragment (c .process))) (c .stretch)
 
 abbrev all-right : List Case → Bool
 all-right [] = true
@@ -25,11 +25,11 @@ both false b t = absurd t
 holds : (c : Case) (b : Bool) → leb (c .stretch) limit ≡ b → T (right c) → Holds b c
 holds c true h t =
     let p = fragment (c .process) in
-    let e = eqb→eq (stretchOf p) (c .stretch) t in
+    let e = eqb→eq (fragmentStretch p) (c .stretch) t in
     rw (← e) (stretch-is p (omega (arith, leb-true (c .stretch) limit h)))
 holds c false h t =
     let p = fragment (c .process) in
-    let e = eqb→eq (stretchOf p) (c .stretch) t in
+    let e = eqb→eq (fragmentStretch p) (c .stretch) t in
     over-is p (omega (arith, leb-false (c .stretch) limit h))
 
 all-hold : (cs : List Case) → T (all-right cs) → AllHold cs
@@ -40,5 +40,5 @@ all-hold (c ∷ cs) t =
 
 -- every case of the stretch, by computation on the definitions
 pub cases-hold : AllHold cases
-unfolding fragments before figures looped again join capped
+unfolding fragments markBefore figures looped again join capped
 cases-hold = all-hold cases tt

@@ -5,12 +5,11 @@ use Prim.Native.Nat.{ℕ, zero, suc, max, _≤_}
 use native.Mathlib.Omega.{arith}
 use borrow.Author.Tests.{ne-eqb}
 use Rattle.figures.specs.declared.Figures.{Figures}
-use Rattle.runs.specs.Cap.{over}
-use Rattle.figures.specs.Figures.{fig, capped, join, joined, empty, again, copies}
-use Rattle.runs.specs.Cap.{cap}
+use Rattle.figures.specs.Cap.{over, cap}
+use Rattle.figures.specs.Figures.{fig, capped, join, joinedCapped, empty, again, copiesCapped}
 use Rattle.figures.proofs.Associative.{fig-path}
 use Rattle.figures.proofs.Capping.{joined-capped-left, joined-capped-right}
-use Rattle.runs.proofs.Cap.{cap-max, many-product}
+use Rattle.figures.proofs.Cap.{cap-max, many-product}
 
 -- n copies, joined one by one
 unfoldable pub power : ℕ → Figures → Figures
@@ -38,19 +37,19 @@ power-capped : (n : ℕ) (a : Figures) → capped (power n (capped a)) ≡ cappe
 unfolding power
 power-capped zero a = refl
 power-capped (suc n) a =
-    joined-capped-left a (power n (capped a)) ∙ sym (joined-capped-right a (power n (capped a))) ∙ ap (joined a) (power-capped n a) ∙ joined-capped-right a (power n a)
+    joined-capped-left a (power n (capped a)) ∙ sym (joined-capped-right a (power n (capped a))) ∙ ap (joinedCapped a) (power-capped n a) ∙ joined-capped-right a (power n a)
 
-pub copies-capped : (n : ℕ) (a : Figures) → copies n (capped a) ≡ copies n a
+pub copies-capped : (n : ℕ) (a : Figures) → copiesCapped n (capped a) ≡ copiesCapped n a
 copies-capped n a = rw (again-power n (capped a), again-power n a) (power-capped n a)
 
 -- 4,097 copies show all that any greater number of them shows
-many-parts : (n : ℕ) → over ≤ suc n → (ae ar : Bool) (f l g : ℕ) → copies (suc n) (fig ar ae f l g) ≡ copies over (fig ar ae f l g)
+many-parts : (n : ℕ) → over ≤ suc n → (ae ar : Bool) (f l g : ℕ) → copiesCapped (suc n) (fig ar ae f l g) ≡ copiesCapped over (fig ar ae f l g)
 unfolding capped again
 many-parts n h false ar f l g = refl
 many-parts n h true true f l g = simp (ne-eqb (suc n) 1 (omega arith))
 many-parts n h true false f l g =
     fig-path refl refl (many-product (suc n) f h) (many-product (suc n) f h) (simp cap-max (ap (max (cap g)) (many-product (suc n) f h)))
 
-pub copies-many : (m : ℕ) → over ≤ m → (a : Figures) → copies m a ≡ copies over a
+pub copies-many : (m : ℕ) → over ≤ m → (a : Figures) → copiesCapped m a ≡ copiesCapped over a
 copies-many zero h a = absurd (omega arith)
 copies-many (suc n) h a = many-parts n h (a .ends) (a .rests) (a .first) (a .last) (a .longest)

@@ -4,10 +4,12 @@ use mathlib.Core.List.{[], _∷_, _++_, append-assoc}
 use Prim.Native.Nat.{ℕ, _≤_}
 use native.Mathlib.Omega.{arith}
 use Rattle.figures.specs.declared.Figures.{Figures}
-use Rattle.figures.specs.Fragment.{Fragment, stop, other, rest, loop, glue}
+use Rattle.figures.specs.Fragment.{Fragment, stop, other, rest, loop}
+use Rattle.figures.specs.inside.Fragments.{glue}
 use Rattle.figures.specs.Written.{busy, repeated, written}
-use Rattle.runs.specs.Cap.{over}
-use Rattle.figures.specs.Figures.{told, capped, join, joined, empty, one, never, copies, looped, figures}
+use Rattle.figures.specs.Cap.{over}
+use Rattle.figures.specs.Figures.{capped, join, joinedCapped, empty, oneStatement, never, copiesCapped, looped, figures}
+use Rattle.figures.specs.inside.ReadOff.{readOff}
 use Rattle.figures.proofs.Capping.{joined-capped-left, joined-assoc}
 use Rattle.figures.proofs.Telling.{told-right}
 use Rattle.figures.proofs.Writing.{told-joined, told-looped, figures-written}
@@ -35,34 +37,34 @@ written-glue m (rest p) q = rw (written-glue m p q)
 written-glue m (loop n b p) q = rw (written-glue m p q, append-assoc (repeated m n (written m b ++ (busy ∷ []))))
 
 -- THE LAW of gluing
-pub figures-glue : (p q : Fragment) → figures (glue p q) ≡ joined (figures p) (figures q)
+pub figures-glue : (p q : Fragment) → figures (glue p q) ≡ joinedCapped (figures p) (figures q)
 figures-glue p q =
     let h : over ≤ over = omega arith in
-    figures-written over h (glue p q) ∙ ap (λ xs. capped (told xs)) (written-glue over p q)
+    figures-written over h (glue p q) ∙ ap (λ xs. capped (readOff xs)) (written-glue over p q)
     ∙ sym (told-joined (written over p) (written over q))
-    ∙ sym (ap₂ joined (figures-written over h p) (figures-written over h q))
+    ∙ sym (ap₂ joinedCapped (figures-written over h p) (figures-written over h q))
 
 -- the empty fragment changes nothing, on either side
-pub empty-left : (p : Fragment) → joined empty (figures p) ≡ figures p
+pub empty-left : (p : Fragment) → joinedCapped empty (figures p) ≡ figures p
 unfolding figures glue
 empty-left p = sym (figures-glue stop p)
 
-pub empty-right : (p : Fragment) → joined (figures p) empty ≡ figures p
+pub empty-right : (p : Fragment) → joinedCapped (figures p) empty ≡ figures p
 unfolding figures
 empty-right p = sym (figures-glue p stop) ∙ ap figures (glue-stop p)
 
 -- after a forever loop nothing counts
-pub after-forever : (a b : Figures) → joined (looped 0 a) b ≡ looped 0 a
+pub after-forever : (a b : Figures) → joinedCapped (looped 0 a) b ≡ looped 0 a
 unfolding looped
-after-forever a b = joined-assoc (copies over (joined a one)) never b ∙ (unfold join capped in refl)
+after-forever a b = joined-assoc (copiesCapped over (joinedCapped a oneStatement)) never b ∙ (unfold join capped in refl)
 
-pub figures-forever : (b p : Fragment) → figures (loop 0 b p) ≡ joined one (looped 0 (figures b))
+pub figures-forever : (b p : Fragment) → figures (loop 0 b p) ≡ joinedCapped oneStatement (looped 0 (figures b))
 unfolding figures
-figures-forever b p = ap (joined one) (after-forever (figures b) (figures p))
+figures-forever b p = ap (joinedCapped oneStatement) (after-forever (figures b) (figures p))
 
--- behind the passes of a loop the empty fragment changes nothing either
-pub looped-right : (n : ℕ) (b : Fragment) → joined (looped n (figures b)) empty ≡ looped n (figures b)
+-- after the passes of a loop the empty fragment changes nothing either
+pub looped-right : (n : ℕ) (b : Fragment) → joinedCapped (looped n (figures b)) empty ≡ looped n (figures b)
 looped-right n b =
     let h : over ≤ over = omega arith in
     rw (figures-written over h b, told-looped over n (written over b) h)
-    (joined-capped-left (told (repeated over n (written over b ++ (busy ∷ [])))) empty ∙ ap capped (told-right (repeated over n (written over b ++ (busy ∷ [])))))
+    (joined-capped-left (readOff (repeated over n (written over b ++ (busy ∷ [])))) empty ∙ ap capped (told-right (repeated over n (written over b ++ (busy ∷ [])))))

@@ -4,7 +4,7 @@ use Prim.Native.Nat.{ℕ, zero, suc, _≤_}
 use native.Mathlib.Nat.{le-refl, le-max-left, le-of-suc-le-suc}
 use native.Mathlib.Omega.{arith}
 use Rattle.figures.specs.Fragment.{Fragment, stop, other, rest, loop}
-use Rattle.figures.specs.Written.{Done, busy, sure, cut, times, repeated, written, run, longest}
+use Rattle.figures.specs.Written.{Done, busy, sure, cut, repeatedTimes, repeated, written, run, longestRun}
 
 -- the first form is the second, or is cut where the second may go on
 pub data Cut : List Done → List Done → Type 0 where
@@ -18,13 +18,13 @@ cut-append finish d = d
 cut-append cuts d = cuts
 cut-append (keeps c) d = keeps (cut-append c d)
 
-pub cut-times : {ps qs : List Done} → Cut ps qs → (n : ℕ) → Cut (times n ps) (times n qs)
-unfolding times
+pub cut-times : {ps qs : List Done} → Cut ps qs → (n : ℕ) → Cut (repeatedTimes n ps) (repeatedTimes n qs)
+unfolding repeatedTimes
 cut-times c zero = finish
 cut-times c (suc n) = cut-append c (cut-times c n)
 
-cut-ever : {ps qs : List Done} → Cut ps qs → (m n : ℕ) → m ≤ n → Cut (times m ps ++ (cut ∷ [])) (times n qs ++ (cut ∷ []))
-unfolding times
+cut-ever : {ps qs : List Done} → Cut ps qs → (m n : ℕ) → m ≤ n → Cut (repeatedTimes m ps ++ (cut ∷ [])) (repeatedTimes n qs ++ (cut ∷ []))
+unfolding repeatedTimes
 cut-ever c zero n h = cuts
 cut-ever c (suc m) zero h = absurd (omega arith)
 cut-ever {ps} {qs} c (suc m) (suc n) h = rw (append-assoc ps, append-assoc qs) (cut-append c (cut-ever c m n (le-of-suc-le-suc h)))
@@ -58,6 +58,6 @@ cut-run k (keeps {x = busy} c) = cut-run (suc k) c
 cut-run k (keeps {x = sure} c) = omega (arith, cut-run 0 c)
 cut-run k (keeps {x = cut} c) = le-refl k
 
-pub longest-grows : (m n : ℕ) → m ≤ n → (p : Fragment) → longest (written m p) ≤ longest (written n p)
-unfolding longest
+pub longest-grows : (m n : ℕ) → m ≤ n → (p : Fragment) → longestRun (written m p) ≤ longestRun (written n p)
+unfolding longestRun
 longest-grows m n h p = cut-run 0 (cut-written m n h p)

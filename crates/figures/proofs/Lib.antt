@@ -12,3 +12,5 @@ pub mod Reading
 pub mod Nesting
 pub mod Scanning
 pub mod Counting
+pub mod Calls
+pub mod Cap

@@ -8,8 +8,9 @@ use native.Mathlib.Decide.{decLe, decLt}
 use native.Mathlib.Omega.{arith}
 use lib.Dec.{leb}
 use borrow.Author.Tests.{leb-true, lt-ltb, le-ltb, le-leb, lt-leb}
-use Rattle.figures.specs.Fragment.{Fragment, stop, other, rest, loop, depth}
-use Rattle.figures.specs.Flat.{Mark, closes, fragment, marks, deepest, nests}
+use Rattle.figures.specs.Fragment.{Fragment, stop, other, rest, loop}
+use Rattle.figures.specs.inside.Fragments.{depth, marks}
+use Rattle.figures.specs.Flat.{Mark, closes, fragment, deepest, marksNest}
 use Rattle.figures.proofs.Reading.{marks-fragment}
 
 -- a loop fits where its body and what follows it do
@@ -24,14 +25,14 @@ loop-fits b p o t = elim (decLe (b + suc o) deepest) [
 ]
 
 -- with o loops open the marks of a fragment that fits may be passed over
-pub nests-marks : (p : Fragment) (ms : List Mark) (o : ℕ) → o ≤ deepest → nests o (marks p ++ ms) ≡ cond (leb (depth p + o) deepest) (nests o ms) false
-unfolding nests marks depth
+pub nests-marks : (p : Fragment) (ms : List Mark) (o : ℕ) → o ≤ deepest → marksNest o (marks p ++ ms) ≡ cond (leb (depth p + o) deepest) (marksNest o ms) false
+unfolding marksNest marks depth
 nests-marks stop ms o h = rw (le-leb (0 + o) deepest (omega arith)) refl
 nests-marks (other p) ms o h = nests-marks p ms o h
 nests-marks (rest p) ms o h = nests-marks p ms o h
 nests-marks (loop n b p) ms o h = elim (decLt o deepest) [
   | yes y ↦
-      rw (lt-ltb o deepest y, append-assoc (marks b), nests-marks b (closes ∷ (marks p ++ ms)) (suc o) y, nests-marks p ms o h) (loop-fits (depth b) (depth p) o (nests o ms))
+      rw (lt-ltb o deepest y, append-assoc (marks b), nests-marks b (closes ∷ (marks p ++ ms)) (suc o) y, nests-marks p ms o h) (loop-fits (depth b) (depth p) o (marksNest o ms))
   | no y ↦ simp (le-ltb o deepest (omega arith), lt-leb (max (suc (depth b)) (depth p) + o) deepest (omega arith))
 ]
 
@@ -39,16 +40,16 @@ cond-id : (t : Bool) → cond t true false ≡ t
 cond-id true = refl
 cond-id false = refl
 
-pub nests-depth : (p : Fragment) → nests 0 (marks p) ≡ leb (depth p) deepest
-unfolding nests
-nests-depth p = ap (nests 0) (sym (append-nil (marks p))) ∙ nests-marks p [] 0 (omega arith) ∙ rw (add-zero (depth p)) (cond-id (leb (depth p) deepest))
+pub nests-depth : (p : Fragment) → marksNest 0 (marks p) ≡ leb (depth p) deepest
+unfolding marksNest
+nests-depth p = ap (marksNest 0) (sym (append-nil (marks p))) ∙ nests-marks p [] 0 (omega arith) ∙ rw (add-zero (depth p)) (cond-id (leb (depth p) deepest))
 
-module _ (ms : List Mark) (h : nests 0 ms ≡ true) where
+module _ (ms : List Mark) (h : marksNest 0 ms ≡ true) where
   pub fragment-depth : depth (fragment ms) ≤ deepest
-  fragment-depth = leb-true (depth (fragment ms)) deepest (sym (nests-depth (fragment ms)) ∙ ap (nests 0) (marks-fragment ms h) ∙ h)
+  fragment-depth = leb-true (depth (fragment ms)) deepest (sym (nests-depth (fragment ms)) ∙ ap (marksNest 0) (marks-fragment ms h) ∙ h)
 
   -- marks that nest, and others after them
-  pub nests-append : (ns : List Mark) → nests 0 (ms ++ ns) ≡ nests 0 ns
+  pub nests-append : (ns : List Mark) → marksNest 0 (ms ++ ns) ≡ marksNest 0 ns
   nests-append ns =
-      ap (λ l. nests 0 (l ++ ns)) (sym (marks-fragment ms h)) ∙ nests-marks (fragment ms) ns 0 (omega arith)
+      ap (λ l. marksNest 0 (l ++ ns)) (sym (marks-fragment ms h)) ∙ nests-marks (fragment ms) ns 0 (omega arith)
       ∙ rw (le-leb (depth (fragment ms) + 0) deepest (omega (arith, fragment-depth))) refl

@@ -5,38 +5,37 @@ use native.Mathlib.Nat.{le-max-left, le-max-right}
 use native.Mathlib.Omega.{arith}
 use Rattle.figures.specs.declared.Figures.{Figures}
 use Rattle.figures.specs.Fragment.{Fragment}
-use Rattle.figures.specs.Written.{written, longest}
-use Rattle.runs.specs.Cap.{limit, over}
+use Rattle.figures.specs.Written.{written, longestRun}
+use Rattle.figures.specs.Cap.{limit, over, cap}
 use Rattle.figures.specs.Stretch.{Stretch, Over}
-use Rattle.runs.specs.Cap.{cap}
-use Rattle.figures.specs.Figures.{capped, stretchOf}
-use Rattle.runs.proofs.Cap.{cap-within}
+use Rattle.figures.specs.Figures.{capped, fragmentStretch}
+use Rattle.figures.proofs.Cap.{cap-within}
 use Rattle.figures.proofs.Writing.{figures-written}
 use Rattle.figures.proofs.Growing.{longest-grows}
 
 module _ (p : Fragment) where
-  pub stretch-written : (m : ℕ) → over ≤ m → stretchOf p ≡ cap (longest (written m p))
+  pub stretch-written : (m : ℕ) → over ≤ m → fragmentStretch p ≡ cap (longestRun (written m p))
   unfolding capped
   stretch-written m h = ap (λ (a : Figures). a .longest) (figures-written m h p)
 
   -- what the figures say is so
-  pub stretch-is : stretchOf p ≤ limit → Stretch p (stretchOf p)
+  pub stretch-is : fragmentStretch p ≤ limit → Stretch p (fragmentStretch p)
   stretch-is h = record {
-    most = λ m. omega (arith, longest-grows m (max m over) (le-max-left m over) p, cap-within (longest (written (max m over) p)) (stretch-written (max m over) (le-max-right m over)) h);
+    most = λ m. omega (arith, longest-grows m (max m over) (le-max-left m over) p, cap-within (longestRun (written (max m over) p)) (stretch-written (max m over) (le-max-right m over)) h);
     enough = over;
-    reached = λ m e. cap-within (longest (written m p)) (stretch-written m e) h;
+    reached = λ m e. cap-within (longestRun (written m p)) (stretch-written m e) h;
   }
 
-  pub over-is : limit < stretchOf p → Over p limit
+  pub over-is : limit < fragmentStretch p → Over p limit
   over-is h = record { enough = over; exceeds = λ m e. omega (arith, stretch-written m e) }
 
   -- and what is so the figures say
-  pub stretch-said : {k : ℕ} → Stretch p k → stretchOf p ≡ cap k
+  pub stretch-said : {k : ℕ} → Stretch p k → fragmentStretch p ≡ cap k
   stretch-said s =
       let m = max over (s .enough) in
       stretch-written m (le-max-left over (s .enough)) ∙ ap cap (s .reached m (le-max-right over (s .enough)))
 
-  pub over-said : Over p limit → stretchOf p ≡ over
+  pub over-said : Over p limit → fragmentStretch p ≡ over
   over-said o =
       let m = max over (o .enough) in
       omega (arith, stretch-written m (le-max-left over (o .enough)), o .exceeds m (le-max-right over (o .enough)))

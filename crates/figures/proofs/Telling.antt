@@ -5,8 +5,9 @@ use mathlib.Core.List.{List, [], _∷_, _++_, append-nil}
 use Prim.Native.Nat.{ℕ, zero, suc, _+_, max}
 use native.Mathlib.Omega.{arith}
 use Rattle.figures.specs.declared.Figures.{Figures}
-use Rattle.figures.specs.Written.{Done, busy, sure, cut, times, run, firstRun, lastRun, rested, ended}
-use Rattle.figures.specs.Figures.{told, join, empty}
+use Rattle.figures.specs.Written.{Done, busy, sure, cut, repeatedTimes, run}
+use Rattle.figures.specs.inside.ReadOff.{firstRun, lastRun, rested, everEnds, readOff}
+use Rattle.figures.specs.Figures.{join, empty}
 use Rattle.figures.proofs.Associative.{fig-path, join-assoc}
 use Rattle.figures.proofs.Copying.{power}
 
@@ -32,36 +33,36 @@ last-carried k (sure ∷ xs) = refl
 last-carried k (cut ∷ xs) = omega arith
 
 -- the empty form on the left
-pub told-left : (xs : List Done) → join empty (told xs) ≡ told xs
+pub told-left : (xs : List Done) → join empty (readOff xs) ≡ readOff xs
 unfolding join
 told-left xs = fig-path refl refl (omega arith) (sym (last-carried 0 xs)) (omega (arith, run-carried 0 xs))
 
 -- a form that is listed place by place is computed: to unfold this is to unfold what its own line names
 unfoldable pub computing : Unit {0}
-unfolding run firstRun lastRun rested ended
+unfolding run firstRun lastRun rested everEnds
 computing = tt
 
 -- one place more
-told-cons : (x : Done) (xs : List Done) → told (x ∷ xs) ≡ join (told (x ∷ [])) (told xs)
+told-cons : (x : Done) (xs : List Done) → readOff (x ∷ xs) ≡ join (readOff (x ∷ [])) (readOff xs)
 unfolding join computing
 told-cons busy xs = fig-path refl refl (omega arith) (last-carried 1 xs) (omega (arith, run-carried 1 xs))
 told-cons sure xs = fig-path refl refl refl (last-carried 0 xs) (omega (arith, run-carried 0 xs))
 told-cons cut xs = refl
 
 -- two forms end to end
-pub told-append : (xs ys : List Done) → told (xs ++ ys) ≡ join (told xs) (told ys)
+pub told-append : (xs ys : List Done) → readOff (xs ++ ys) ≡ join (readOff xs) (readOff ys)
 told-append [] ys = unfold computing in sym (told-left ys)
 told-append (x ∷ xs) ys =
-    told-cons x (xs ++ ys) ∙ ap (join (told (x ∷ []))) (told-append xs ys) ∙ sym (join-assoc (told (x ∷ [])) (told xs) (told ys))
-    ∙ ap (λ (a : Figures). join a (told ys)) (sym (told-cons x xs))
+    told-cons x (xs ++ ys) ∙ ap (join (readOff (x ∷ []))) (told-append xs ys) ∙ sym (join-assoc (readOff (x ∷ [])) (readOff xs) (readOff ys))
+    ∙ ap (λ (a : Figures). join a (readOff ys)) (sym (told-cons x xs))
 
 -- the empty form on the right
-pub told-right : (xs : List Done) → join (told xs) empty ≡ told xs
+pub told-right : (xs : List Done) → join (readOff xs) empty ≡ readOff xs
 unfolding computing
-told-right xs = sym (told-append xs []) ∙ ap told (append-nil xs)
+told-right xs = sym (told-append xs []) ∙ ap readOff (append-nil xs)
 
 -- n forms end to end
-pub told-times : (n : ℕ) (xs : List Done) → told (times n xs) ≡ power n (told xs)
-unfolding times power
+pub told-times : (n : ℕ) (xs : List Done) → readOff (repeatedTimes n xs) ≡ power n (readOff xs)
+unfolding repeatedTimes power
 told-times zero xs = unfold computing in refl
-told-times (suc n) xs = told-append xs (times n xs) ∙ ap (join (told xs)) (told-times n xs)
+told-times (suc n) xs = told-append xs (repeatedTimes n xs) ∙ ap (join (readOff xs)) (told-times n xs)

@@ -4,7 +4,7 @@ use mathlib.Core.List.{List, [], _∷_}
 use Prim.Native.Nat.{ℕ}
 use lib.Dec.{leb}
 use Rattle.figures.specs.Flat.{Mark, plain, sureRest, opens, closes, fragment}
-use Rattle.runs.specs.Cap.{limit, over}
+use Rattle.figures.specs.Cap.{limit, over}
 use Rattle.figures.specs.Stretch.{Stretch, Over}
 
 -- "Sure rests are .. WAIT DATA"

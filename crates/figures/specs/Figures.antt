@@ -1,24 +1,18 @@
 -- Figures of a fragment: what is to be known of it to join it to others. Assumes nothing: these are definitions.
 use mathlib.Core.Bool.{Bool, true, false, cond, _||_}
-use mathlib.Core.List.{List}
 use Prim.Native.Nat.{ℕ, zero, suc, _+_, _*_, max}
 use lib.Dec.{eqb}
 use Rattle.figures.specs.declared.Figures.{Figures}
 use Rattle.figures.specs.Fragment.{Fragment, stop, other, rest, loop}
-use Rattle.figures.specs.Written.{Done, longest, firstRun, lastRun, rested, ended}
-use Rattle.runs.specs.Cap.{over, cap}
+use Rattle.figures.specs.Cap.{over, cap}
 
 -- the record of a fragment's figures, part by part
 abbrev pub fig : Bool → Bool → ℕ → ℕ → ℕ → Figures
 fig r e f l g = record { rests = r; ends = e; first = f; last = l; longest = g }
 
--- "whether it rests, whether it ever ends, its first, last and longest runs", read off a written-out form
-abbrev pub told : List Done → Figures
-told xs = fig (rested xs) (ended xs) (firstRun xs) (lastRun 0 xs) (longest xs)
-
 -- one statement that is no sure rest
-abbrev pub one : Figures
-one = fig false true 1 1 1
+abbrev pub oneStatement : Figures
+oneStatement = fig false true 1 1 1
 
 -- a sure rest
 abbrev pub oneRest : Figures
@@ -28,7 +22,7 @@ oneRest = fig true true 0 0 0
 abbrev pub empty : Figures
 empty = fig false true 0 0 0
 
--- what stands behind the passes of a forever loop: it never ends
+-- what stands after the passes of a forever loop: it never ends
 abbrev pub never : Figures
 never = fig false false 0 0 0
 
@@ -52,8 +46,8 @@ unfoldable pub capped : Figures → Figures
 capped a = fig (a .rests) (a .ends) (cap (a .first)) (cap (a .last)) (cap (a .longest))
 
 -- the capped figures of b after a
-abbrev pub joined : Figures → Figures → Figures
-joined a b = capped (join a b)
+abbrev pub joinedCapped : Figures → Figures → Figures
+joinedCapped a b = capped (join a b)
 
 -- n copies of a end to end: where a rests, the last run of one meets the first of the next
 unfoldable pub again : ℕ → Figures → Figures
@@ -66,21 +60,21 @@ again (suc n) a = cond (a .ends)
     a
 
 -- the capped figures of n copies of a
-abbrev pub copies : ℕ → Figures → Figures
-copies n a = capped (again n a)
+abbrev pub copiesCapped : ℕ → Figures → Figures
+copiesCapped n a = capped (again n a)
 
 -- the passes of LOOP n with the body b, "END once per pass"; a forever loop shows in 4,097 passes all that it will ever show
 unfoldable pub looped : ℕ → Figures → Figures
-looped zero b = joined (copies over (joined b one)) never
-looped (suc n) b = copies (suc n) (joined b one)
+looped zero b = joinedCapped (copiesCapped over (joinedCapped b oneStatement)) never
+looped (suc n) b = copiesCapped (suc n) (joinedCapped b oneStatement)
 
 -- the figures of a fragment in closed form, "LOOP counts once on entry"
 unfoldable pub figures : Fragment → Figures
 figures stop = empty
-figures (other p) = joined one (figures p)
-figures (rest p) = joined oneRest (figures p)
-figures (loop n b p) = joined one (joined (looped n (figures b)) (figures p))
+figures (other p) = joinedCapped oneStatement (figures p)
+figures (rest p) = joinedCapped oneRest (figures p)
+figures (loop n b p) = joinedCapped oneStatement (joinedCapped (looped n (figures b)) (figures p))
 
 -- the stretch, or 4,097 where it is over 4,096
-abbrev pub stretchOf : Fragment → ℕ
-stretchOf p = figures p .longest
+abbrev pub fragmentStretch : Fragment → ℕ
+fragmentStretch p = figures p .longest

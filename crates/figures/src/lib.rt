@@ -1,13 +1,15 @@
 // Figures of a fragment of a script: what is to be known of it to join it to others, each run capped at 4,097.
 ghost use mathlib.Core.Path.{_≡_};
-ghost use Rattle.figures.specs.Figures.{capped, joined, one, oneRest, empty, never, copies, looped};
-use runs::OVER;
-use runs::choose;
-use runs::either;
-use runs::held;
-use runs::larger;
-use runs::meet;
-use runs::product;
+ghost use Rattle.figures.specs.Figures.{capped, joinedCapped, oneStatement, oneRest, empty, never, copiesCapped, looped};
+use crate::runs::OVER;
+use crate::runs::choose;
+use crate::runs::either;
+use crate::runs::held;
+use crate::runs::larger;
+use crate::runs::meet;
+use crate::runs::product;
+
+pub mod runs;
 
 /// Whether a fragment rests, whether it ever ends, and its first, last and longest runs.
 pub struct Figures {
@@ -26,7 +28,7 @@ pub struct Figures {
 impl Figures {
     /// The figures of one statement that is no sure rest.
     pub fn plain() -> Figures
-        ensures { λ r. ⌜ r ≡ one ⌝ }
+        ensures { λ r. ⌜ r ≡ oneStatement ⌝ }
     {
         Figures {
             rests: false,
@@ -63,7 +65,7 @@ impl Figures {
         }
     }
 
-    // The figures of what stands behind the passes of a forever loop.
+    // The figures of what stands after the passes of a forever loop.
     fn endless() -> Figures
         ensures { λ r. ⌜ r ≡ never ⌝ }
     {
@@ -91,7 +93,7 @@ impl Figures {
 
     /// The figures of this fragment with the next one joined to its end.
     pub fn join(self, next: Figures) -> Figures
-        ensures { λ r. ⌜ r ≡ joined self next ⌝ }
+        ensures { λ r. ⌜ r ≡ joinedCapped self next ⌝ }
     {
         let ends = self.ends;
         if ends {
@@ -111,7 +113,7 @@ impl Figures {
 
     /// The figures of n copies of this fragment, end to end.
     pub fn repeat(self, n: u32) -> Figures
-        ensures { λ r. ⌜ r ≡ copies n self ⌝ }
+        ensures { λ r. ⌜ r ≡ copiesCapped n self ⌝ }
     {
         if n == 0 {
             return Figures::nothing();

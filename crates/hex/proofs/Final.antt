@@ -9,7 +9,7 @@ use lib.ListN.{length}
 use Rattle.reader.specs.Bytes.{digitOf}
 use Rattle.numbers.specs.declared.Number.the-variants.{Value, Bad}
 use Rattle.numbers.proofs.Final.{kept, same}
-use Rattle.hex.specs.Hex.{Said, good, bad, stepOf, before, after, hexGo, hexSecond, hexByteOf}
+use Rattle.hex.specs.Hex.{Said, good, bad, stepOf, byteBefore, afterStep, hexGo, hexSecond, hexByteOf}
 use Rattle.hex.specs.declared.HexStep.{HexStep}
 use Rattle.hex.specs.declared.HexStep.the-variants.{Refuse, Skip, First, Whole}
 
@@ -31,18 +31,18 @@ hex-byte-final (a ∷ rest) ys at k h e =
 
 -- ---- hex data
 
-before-bad : (b k : ℕ) (x : Said) → before b x ≡ bad k → x ≡ bad k
-unfolding before
+before-bad : (b k : ℕ) (x : Said) → byteBefore b x ≡ bad k → x ≡ bad k
+unfolding byteBefore
 before-bad b k (good bs) e = cc
 before-bad b k (bad at) e = e
 
-bad-before : (b k : ℕ) (x : Said) → x ≡ bad k → before b x ≡ bad k
-unfolding before
+bad-before : (b k : ℕ) (x : Said) → x ≡ bad k → byteBefore b x ≡ bad k
+unfolding byteBefore
 bad-before b k (good bs) e = cc
 bad-before b k (bad at) e = e
 
 after-kept : (at k : ℕ) (st : HexStep) {x y : Said} {f g : ℕ → Said} → (x ≡ bad k → y ≡ bad k) → ((h : ℕ) → f h ≡ bad k → g h ≡ bad k)
-    → after at st x f ≡ bad k → after at st y g ≡ bad k
+    → afterStep at st x f ≡ bad k → afterStep at st y g ≡ bad k
 after-kept at k Refuse p q e = e
 after-kept at k Skip p q e = p e
 after-kept at k (First h) p q e = q h e

@@ -10,7 +10,8 @@ use lib.Dec.{ltb, leb}
 use lib.ListN.{length, drop, getD, set, drop-of-length-le}
 use lib.Seq.{drop-cons, sets}
 use borrow.Author.Tests.{lt-ltb, le-ltb}
-use Rattle.hex.specs.Hex.{Said, stepOf, before, after, hexGo, hexAt, counted, bytesOf, hexInto, hexPut, good, bad}
+use Rattle.hex.specs.Hex.{Said, stepOf, byteBefore, afterStep, hexGo, hexAt, counted, hexInto, hexPut, good, bad}
+use Rattle.hex.specs.inside.Said.{saidBytes}
 use Rattle.hex.specs.declared.HexStep.{HexStep}
 use Rattle.hex.specs.declared.HexStep.the-variants.{Refuse, Skip, First, Whole}
 use Rattle.hex.specs.declared.HexCount.the-variants.{Of, Not}
@@ -23,7 +24,7 @@ hex-end s half i h = rw (drop-of-length-le s h)
 
 -- `st` is the step that the code has found at the place `i`
 hex-on : (s : List ℕ) (half i : ℕ) (st : HexStep) → i < length s → st ≡ stepOf half (getD s i 0)
-    → hexGo (drop i s) half i ≡ after i st (hexGo (drop (i + 1) s) 16 (i + 1)) (λ h. hexGo (drop (i + 1) s) h (i + 1))
+    → hexGo (drop i s) half i ≡ afterStep i st (hexGo (drop (i + 1) s) 16 (i + 1)) (λ h. hexGo (drop (i + 1) s) h (i + 1))
 unfolding hexGo
 hex-on s half i st h is = rw (add-one i, drop-cons s i 0) (simp (is, add-one))
 
@@ -38,8 +39,8 @@ unfolding hexAt
 uncounted = record { few = omega arith; whole = refl }
 
 -- a byte in front is one more
-counted-before : (n b : ℕ) (x : Said) → counted n (before b x) ≡ counted (n + 1) x
-unfolding counted before
+counted-before : (n b : ℕ) (x : Said) → counted n (byteBefore b x) ≡ counted (n + 1) x
+unfolding counted byteBefore
 counted-before n b (good bs) = ap Of (omega arith)
 counted-before n b (bad at) = refl
 
@@ -54,7 +55,7 @@ module _ {s : List ℕ} {at n half i : ℕ} (w : Counting s at n half i) where
 
   -- the count from the step `st` on
   module _ {st : HexStep} (inside : i < length s) (is : st ≡ stepOf half (getD s i 0)) where
-    from-step : counted 0 (hexAt s at) ≡ counted n (after i st (hexGo (drop (i + 1) s) 16 (i + 1)) (λ h. hexGo (drop (i + 1) s) h (i + 1)))
+    from-step : counted 0 (hexAt s at) ≡ counted n (afterStep i st (hexGo (drop (i + 1) s) 16 (i + 1)) (λ h. hexGo (drop (i + 1) s) h (i + 1)))
     from-step = w .whole ∙ ap (counted n) (hex-on s half i st inside is)
 
   pub refused : i < length s → Refuse ≡ stepOf half (getD s i 0) → counted 0 (hexAt s at) ≡ Not i
@@ -73,44 +74,44 @@ module _ {s : List ℕ} {at n half i : ℕ} (w : Counting s at n half i) where
 -- ---- good data that are being written: the bytes from `i` on, after `half`, are good, and are what is still to be written
 
 pub record Writing (s d₀ : List ℕ) (to : ℕ) (bs d : List ℕ) (place half i : ℕ) : Type 0 where
-  pub sound : hexGo (drop i s) half i ≡ good (bytesOf (hexGo (drop i s) half i))
-  pub placing : Placing d₀ to bs d place (bytesOf (hexGo (drop i s) half i))
+  pub sound : hexGo (drop i s) half i ≡ good (saidBytes (hexGo (drop i s) half i))
+  pub placing : Placing d₀ to bs d place (saidBytes (hexGo (drop i s) half i))
 
-pub unwritten : {s : List ℕ} {at : ℕ} {d : List ℕ} {to : ℕ} → hexAt s at ≡ good (bytesOf (hexAt s at)) → to + length (bytesOf (hexAt s at)) ≤ length d
-    → Writing s d to (bytesOf (hexAt s at)) d to 16 at
+pub unwritten : {s : List ℕ} {at : ℕ} {d : List ℕ} {to : ℕ} → hexAt s at ≡ good (saidBytes (hexAt s at)) → to + length (saidBytes (hexAt s at)) ≤ length d
+    → Writing s d to (saidBytes (hexAt s at)) d to 16 at
 unfolding hexAt
 unwritten e h = record { sound = e; placing = begun h }
 
 -- where a byte in front of what the rest says is good, the rest is
-sound-rest : (b : ℕ) (bs : List ℕ) (x : Said) → before b x ≡ good bs → x ≡ good (bytesOf x)
-unfolding before bytesOf
+sound-rest : (b : ℕ) (bs : List ℕ) (x : Said) → byteBefore b x ≡ good bs → x ≡ good (saidBytes x)
+unfolding byteBefore saidBytes
 sound-rest b bs (good cs) e = refl
 sound-rest b bs (bad at) e = cc
 
-bytes-front : (b : ℕ) (x : Said) → x ≡ good (bytesOf x) → bytesOf (before b x) ≡ b ∷ bytesOf x
-unfolding before bytesOf
+bytes-front : (b : ℕ) (x : Said) → x ≡ good (saidBytes x) → saidBytes (byteBefore b x) ≡ b ∷ saidBytes x
+unfolding byteBefore saidBytes
 bytes-front b (good bs) e = refl
 bytes-front b (bad at) e = cc
 
-bytes-end : (t : Bool) (i : ℕ) → bytesOf (cond t (bad i) (good [])) ≡ []
-unfolding bytesOf
+bytes-end : (t : Bool) (i : ℕ) → saidBytes (cond t (bad i) (good [])) ≡ []
+unfolding saidBytes
 bytes-end true i = refl
 bytes-end false i = refl
 
 module _ {s d₀ : List ℕ} {to : ℕ} {bs d : List ℕ} {place half i : ℕ} (w : Writing s d₀ to bs d place half i) where
   pub all-written : length s ≤ i → d ≡ sets d₀ to bs
-  all-written h = placed (renamed (ap bytesOf (hex-end s half i h) ∙ bytes-end (ltb half 16) i) (w .placing))
+  all-written h = placed (renamed (ap saidBytes (hex-end s half i h) ∙ bytes-end (ltb half 16) i) (w .placing))
 
   -- good data have no byte that is refused
   pub none-refused : i < length s → Refuse ≡ stepOf half (getD s i 0) → d ≡ sets d₀ to bs
   none-refused h is =
-      let e : bad i ≡ good (bytesOf (hexGo (drop i s) half i)) = sym (hex-on s half i _ h is) ∙ w .sound in
+      let e : bad i ≡ good (saidBytes (hexGo (drop i s) half i)) = sym (hex-on s half i _ h is) ∙ w .sound in
       let z : _≡_ {A = ℕ} 0 1 = cc in
       absurd (omega arith)
 
   -- the rest says the same from the state that the step leads to
   on : {half′ : ℕ} → hexGo (drop i s) half i ≡ hexGo (drop (i + 1) s) half′ (i + 1) → Writing s d₀ to bs d place half′ (i + 1)
-  on e = record { sound = sym e ∙ w .sound ∙ ap (λ (x : Said). good (bytesOf x)) e; placing = renamed (ap bytesOf e) (w .placing) }
+  on e = record { sound = sym e ∙ w .sound ∙ ap (λ (x : Said). good (saidBytes x)) e; placing = renamed (ap saidBytes e) (w .placing) }
 
   pub parted : i < length s → Skip ≡ stepOf half (getD s i 0) → Writing s d₀ to bs d place 16 (i + 1)
   parted h is = on (hex-on s half i _ h is)
@@ -119,11 +120,11 @@ module _ {s d₀ : List ℕ} {to : ℕ} {bs d : List ℕ} {place half i : ℕ} (
   begins h is = on (hex-on s half i _ h is)
 
   module _ {b : ℕ} (h : i < length s) (is : Whole b ≡ stepOf half (getD s i 0)) where
-    sound-on : hexGo (drop (i + 1) s) 16 (i + 1) ≡ good (bytesOf (hexGo (drop (i + 1) s) 16 (i + 1)))
+    sound-on : hexGo (drop (i + 1) s) 16 (i + 1) ≡ good (saidBytes (hexGo (drop (i + 1) s) 16 (i + 1)))
     sound-on = sound-rest b _ _ (sym (hex-on s half i _ h is) ∙ w .sound)
 
-    next-byte : Placing d₀ to bs d place (b ∷ bytesOf (hexGo (drop (i + 1) s) 16 (i + 1)))
-    next-byte = renamed (ap bytesOf (hex-on s half i _ h is) ∙ bytes-front b _ sound-on) (w .placing)
+    next-byte : Placing d₀ to bs d place (b ∷ saidBytes (hexGo (drop (i + 1) s) 16 (i + 1)))
+    next-byte = renamed (ap saidBytes (hex-on s half i _ h is) ∙ bytes-front b _ sound-on) (w .placing)
 
     pub room-there : place < length d
     room-there = fits next-byte
@@ -150,8 +151,8 @@ module _ (d : List ℕ) (to : ℕ) where
   into-full (bad at) e told h = let z : _≡_ {A = ℕ} 0 1 = cc in absurd (omega arith)
 
   pub into-fits : {n : ℕ} {t : Bool} (x : Said) → Of n ≡ counted 0 x → t ≡ leb (to + n) (length d) → t ≡ true
-      → (Bytes n ≡ hexInto x d to) × (sets d to (bytesOf x) ≡ hexPut x d to)
-  unfolding counted hexInto hexPut bytesOf
+      → (Bytes n ≡ hexInto x d to) × (sets d to (saidBytes x) ≡ hexPut x d to)
+  unfolding counted hexInto hexPut saidBytes
   into-fits {n} (good bs) e told h =
       let s : n ≡ 0 + length bs = cc in
       let l : length bs ≡ n = omega arith in
@@ -159,12 +160,12 @@ module _ (d : List ℕ) (to : ℕ) where
       (rw f (ap Bytes (sym l)), rw f)
   into-fits (bad at) e told h = let z : _≡_ {A = ℕ} 0 1 = cc in absurd (omega arith)
 
-pub counted-good : {n : ℕ} (x : Said) → Of n ≡ counted 0 x → x ≡ good (bytesOf x)
-unfolding counted bytesOf
+pub counted-good : {n : ℕ} (x : Said) → Of n ≡ counted 0 x → x ≡ good (saidBytes x)
+unfolding counted saidBytes
 counted-good (good bs) e = refl
 counted-good (bad at) e = cc
 
-pub counted-room : {n : ℕ} (to k : ℕ) (x : Said) → Of n ≡ counted 0 x → to + n ≤ k → to + length (bytesOf x) ≤ k
-unfolding counted bytesOf
+pub counted-room : {n : ℕ} (to k : ℕ) (x : Said) → Of n ≡ counted 0 x → to + n ≤ k → to + length (saidBytes x) ≤ k
+unfolding counted saidBytes
 counted-room {n} to k (good bs) e h = let s : n ≡ 0 + length bs = cc in omega arith
 counted-room to k (bad at) e h = let z : _≡_ {A = ℕ} 0 1 = cc in absurd (omega arith)

@@ -29,21 +29,21 @@ stepOf half b =
     (cond (isBlank b) (cond (ltb half 16) Refuse Skip) Refuse)
 
 -- a byte in front of what the rest says
-unfoldable pub before : ℕ → Said → Said
-before b (good bs) = good (b ∷ bs)
-before b (bad at) = bad at
+unfoldable pub byteBefore : ℕ → Said → Said
+byteBefore b (good bs) = good (b ∷ bs)
+byteBefore b (bad at) = bad at
 
 -- how the reading goes on after a step at the place `at`: `next` with no pair begun, `paired` with one
-abbrev pub after : ℕ → HexStep → Said → (ℕ → Said) → Said
-after at Refuse next paired = bad at
-after at Skip next paired = next
-after at (First h) next paired = paired h
-after at (Whole b) next paired = before b next
+abbrev pub afterStep : ℕ → HexStep → Said → (ℕ → Said) → Said
+afterStep at Refuse next paired = bad at
+afterStep at Skip next paired = next
+afterStep at (First h) next paired = paired h
+afterStep at (Whole b) next paired = byteBefore b next
 
 -- the bytes left, from the place `at`, after `half`
 unfoldable pub hexGo : List ℕ → ℕ → ℕ → Said
 hexGo [] half at = cond (ltb half 16) (bad at) (good [])
-hexGo (b ∷ rest) half at = after at (stepOf half b) (hexGo rest 16 (at + 1)) (λ h. hexGo rest h (at + 1))
+hexGo (b ∷ rest) half at = afterStep at (stepOf half b) (hexGo rest 16 (at + 1)) (λ h. hexGo rest h (at + 1))
 
 -- the hex data from a place on to the end
 unfoldable pub hexAt : List ℕ → ℕ → Said
@@ -54,11 +54,6 @@ unfoldable pub counted : ℕ → Said → HexCount
 counted n (good bs) = Of (n + length bs)
 counted n (bad at) = Not at
 
--- the bytes, where the data are good
-unfoldable pub bytesOf : Said → List ℕ
-bytesOf (good bs) = bs
-bytesOf (bad at) = []
-
 -- data read into `d` from `to` on: how many bytes, or why none; and what `d` then holds
 unfoldable pub hexInto : Said → List ℕ → ℕ → HexRead
 hexInto (bad at) d to = Wrong at
@@ -68,11 +63,6 @@ hexInto (good bs) d to = cond (leb (to + length bs) (length d)) (Bytes (length b
 unfoldable pub hexPut : Said → List ℕ → ℕ → List ℕ
 hexPut (bad at) d to = d
 hexPut (good bs) d to = cond (leb (to + length bs) (length d)) (sets d to bs) d
-
--- the same data, their place moved on by `k`
-unfoldable pub movedSaid : ℕ → Said → Said
-movedSaid k (good bs) = good bs
-movedSaid k (bad at) = bad (k + at)
 
 -- ---- "`:` and one or two hex digits"; "more is ignored": one byte, as ENCODE needs it
 

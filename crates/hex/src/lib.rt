@@ -3,7 +3,8 @@ ghost use Prim.Native.Nat.{_+_, _≤_};
 ghost use mathlib.Core.Path.{_≡_};
 ghost use lib.ListN.{length};
 ghost use lib.Seq.{sets};
-ghost use Rattle.hex.specs.Hex.{good, stepOf, hexAt, counted, bytesOf, hexInto, hexPut, hexByteAt};
+ghost use Rattle.hex.specs.Hex.{good, stepOf, hexAt, counted, hexInto, hexPut, hexByteAt};
+ghost use Rattle.hex.specs.inside.Said.{saidBytes};
 use numbers::Number;
 use reader::bytes::blank;
 use reader::bytes::digit;
@@ -84,8 +85,9 @@ pub fn hex_count(s: &[u8], at: usize) -> HexCount
 
 // Writes the bytes of hex data that are good and have room.
 fn hex_write(s: &[u8], at: usize, dst: &mut [u8], to: usize)
-    requires { ⌜ (hexAt (now s) at ≡ good (bytesOf (hexAt (now s) at))) × (to + length (bytesOf (hexAt (now s) at)) ≤ length (now dst)) ⌝ }
-    ensures { λ _. ⌜ now (dst .exit) ≡ sets (now (dst .entry)) to (bytesOf (hexAt (now (s .entry)) at)) ⌝ }
+    requires { ⌜ (hexAt (now s) at ≡ good (saidBytes (hexAt (now s) at)))
+        × (to + length (saidBytes (hexAt (now s) at)) ≤ length (now dst)) ⌝ }
+    ensures { λ _. ⌜ now (dst .exit) ≡ sets (now (dst .entry)) to (saidBytes (hexAt (now (s .entry)) at)) ⌝ }
 {
     let mut place = to;
     let mut half = 16u8;
@@ -114,7 +116,8 @@ fn hex_write(s: &[u8], at: usize, dst: &mut [u8], to: usize)
 
 // Reads the hex data from a place on to the end into `dst` from `to` on, all of it or none.
 pub fn hex_into(s: &[u8], at: usize, dst: &mut [u8], to: usize) -> HexRead
-    ensures { λ r. ⌜ (r ≡ hexInto (hexAt (now (s .entry)) at) (now (dst .entry)) to) × (now (dst .exit) ≡ hexPut (hexAt (now (s .entry)) at) (now (dst .entry)) to) ⌝ }
+    ensures { λ r. ⌜ (r ≡ hexInto (hexAt (now (s .entry)) at) (now (dst .entry)) to)
+        × (now (dst .exit) ≡ hexPut (hexAt (now (s .entry)) at) (now (dst .entry)) to) ⌝ }
 {
     let count = hex_count(s, at);
     match count {

@@ -6,19 +6,20 @@ use mathlib.Core.List.{List, [], _∷_, append-nil}
 use native.Mathlib.Omega.{arith}
 use lib.Dec.{leb}
 use lib.ListN.{length, length-append}
-use Rattle.runs.specs.Cap.{limit}
+use Rattle.figures.specs.Cap.{limit}
 use Rattle.reader.specs.Bytes.{all}
 use Rattle.reader.proofs.Tests.{both, by-cases}
-use Rattle.language.specs.declared.Fault.the-variants.{TextTooLong, StretchTooLong}
+use Rattle.language.specs.declared.TextFault.the-variants.{TextTooLong, StretchTooLong}
 use Rattle.language.specs.Lines.{linesOf}
 use Rattle.language.specs.Limits.{textLimit}
 use Rattle.language.specs.Script.{Statement, Item, Script, processes}
 use Rattle.language.specs.Listing.{bodyLines, settingLines, listedLines}
 use Rattle.language.specs.Right.{isByte, nests, allBelow}
-use Rattle.language.specs.Draft.{Result, accepted, refused, Draft, start, Taken, going, stop, takeLine, stretched, finished, after, fold, resultOf}
+use Rattle.language.specs.Draft.{Result, accepted, refused, Draft, start, LineTaken, going, stop, takeLine, stretched, finished, goOn, fold, resultOf}
 use Rattle.language.proofs.Good.{Good}
 use Rattle.language.proofs.Cutting.{AllInLine, text-lines}
-use Rattle.language.proofs.Sound.{Sound, needs-listed, Holds, line-on, start-sound}
+use Rattle.language.proofs.Sound.{Holds, line-on, start-sound}
+use Rattle.language.proofs.SoundBody.{Sound, needs-listed}
 
 module _ (stretch : List Statement → ℕ) where
   abbrev Ends : Result → Type 0
@@ -57,8 +58,8 @@ module _ (stretch : List Statement → ℕ) where
       go (l ∷ ls) e = tt
       go [] e = stretched-good (processes (st .body)) 1 (scriptOf st) (λ b. whole-good st i e b)
 
-  after-good : (t : Taken) (go : Draft → Result) → Holds t → ((st : Draft) → Sound 0 st → Ends (go st)) → Ends (after t go)
-  unfolding after
+  after-good : (t : LineTaken) (go : Draft → Result) → Holds t → ((st : Draft) → Sound 0 st → Ends (go st)) → Ends (goOn t go)
+  unfolding goOn
   after-good (going st) go h f = f st h
   after-good (stop n row) go h f = tt
 

@@ -1,13 +1,12 @@
 -- THE WORD OF A CELL IS READ BACK, for every cell that a line can have; and every word is the word of such a cell or is Unknown.
 -- Assumes nothing.
 use Prim.Native.Nat.{ℕ, zero, suc, _+_, _*_, _/_, _%_, _≤_, _<_}
-use mathlib.Core.Path.{_≡_, refl, ap, sym, _∙_}
+use mathlib.Core.Path.{_≡_, refl, sym, _∙_}
 use mathlib.Core.Bool.{Bool, true, false, cond, _&&_, _||_}
-use mathlib.Core.List.{List, [], _∷_}
 use mathlib.Core.Logic.{_⊎_, inl, inr, ⊎-elim}
 use native.Mathlib.Omega.{arith}
-use lib.Dec.{ltb, leb, eqb}
-use borrow.Author.Tests.{leb-true, ltb-true, eqb-true, eqb-false, lt-ltb, le-leb}
+use lib.Dec.{leb, eqb}
+use borrow.Author.Tests.{leb-true, ltb-true, eqb-true, lt-ltb, le-leb}
 use Rattle.reader.proofs.Tests.{both-left, both-right, by-cases, true-is-false}
 use Rattle.language.specs.declared.Span.{Span}
 use Rattle.language.specs.declared.Clock.{Clock}
@@ -16,7 +15,8 @@ use Rattle.language.specs.declared.Cell.the-variants.{Nothing, Send, Loo
 use Rattle.language.specs.Limits.{dataLimit, sendRoom, waitRoom, logRoom}
 use Rattle.language.specs.Clock.{Range, range, within}
 use Rattle.language.specs.Right.{timeRight}
-use Rattle.language.specs.Cell.{level, bit, kindOf, spanNumber, clockNumber, argumentOf, coded, spanRight, unitRight, fixedRight, cellRight, when, spanOf, clockOfNumber, cellOf, decoded}
+use Rattle.language.specs.Cell.{level, bit, kindOf, spanNumber, clockNumber, argumentOf, coded, spanRight, unitRight, fixedRight, orUnknown, spanOf, clockOfNumber, cellOf, decoded}
+use Rattle.language.specs.inside.Right.{cellRight}
 
 bit-small : (b : Bool) → bit b < 2
 bit-small true = omega arith
@@ -202,11 +202,11 @@ signal-number : (a : ℕ) → a / 2 * 2 + bit (eqb (a % 2) 1) ≡ a
 signal-number a = let e : bit (eqb (a % 2) 1) ≡ a % 2 = flag-number (a % 2) (omega arith) in omega arith
 
 module _ (k a : ℕ) where
-  -- the case of a kind, `rest` being the cases behind it
+  -- the case of a kind, `rest` being the cases after it
   case : (n : ℕ) (t : Bool) (c rest : Cell) → (t ≡ true → (cellRight c ≡ true) × (kindOf c ≡ n) × (argumentOf c ≡ a))
-      → Told k a rest → Told k a (cond (eqb k n) (when t c) rest)
+      → Told k a rest → Told k a (cond (eqb k n) (orUnknown t c) rest)
   case n t c rest here more =
-      by-cases (Told k a) (eqb k n) (when t c) rest
+      by-cases (Told k a) (eqb k n) (orUnknown t c) rest
       (λ e. by-cases (Told k a) t c Unknown (λ h. inr (here h .0, here h .1 ∙ sym (eqb-true k n e), here h .2)) (λ h. inl refl))
       (λ e. more)
 

@@ -9,7 +9,7 @@ use lib.ListN.{length}
 use borrow.Author.Tests.{leb-true}
 use Rattle.reader.specs.Bytes.{same}
 use Rattle.numbers.specs.Number.{pairAt}
-use Rattle.hex.specs.Hex.{good, before}
+use Rattle.hex.specs.Hex.{good, byteBefore}
 use Rattle.writer.specs.Put.{twoDigits}
 use Rattle.reader.proofs.Tests.{both-left, both-right, true-is-false, Every}
 use Rattle.reader.proofs.Solid.{Shown, Solid}
@@ -53,7 +53,7 @@ in-length (r ∷ rs) (v ∷ vs) h = ap suc (in-length rs vs (both-right (within 
 
 -- values in their ranges are what fills the ranges
 fill-back : (rs : List Range) (vs : List ℕ) → Low rs → inRanges rs vs ≡ true → fill rs (inTwos vs) ≡ good vs
-unfolding inRanges fill inTwos twoDigits same pairAt valueBefore before
+unfolding inRanges fill inTwos twoDigits same pairAt valueBefore byteBefore
 fill-back [] [] l h = refl
 fill-back [] (v ∷ vs) l h = cc
 fill-back (r ∷ rs) [] l h = cc

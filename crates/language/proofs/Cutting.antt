@@ -11,7 +11,7 @@ use lib.Seq.{append-snoc}
 use Rattle.reader.specs.Bytes.{all}
 use Rattle.reader.proofs.Tests.{both-left, both-right, all-append, both, by-cases}
 use Rattle.language.specs.Lines.{dropCr, inFront, rawLines, eachLine, linesOf}
-use Rattle.language.specs.Listing.{joined}
+use Rattle.language.specs.Listing.{withLineEnds}
 use Rattle.language.specs.Right.{isByte, inLine}
 use Rattle.language.proofs.Bytes.{not-true, all-so}
 
@@ -144,12 +144,12 @@ whole-line l h =
     all-append (λ b. not (eqb b 10)) l (13 ∷ [])
     (all-so inLine (λ b. not (eqb b 10)) (λ b e. both-right (isByte b) (not (eqb b 10)) e) l h) refl
 
-pub lines-joined : (ls : List (List ℕ)) → AllInLine ls → linesOf (joined ls) ≡ ls
-unfolding linesOf joined rawLines eachLine
+pub lines-joined : (ls : List (List ℕ)) → AllInLine ls → linesOf (withLineEnds ls) ≡ ls
+unfolding linesOf withLineEnds rawLines eachLine
 lines-joined [] h = refl
 lines-joined (l ∷ ls) h =
-    ap linesOf (sym (append-snoc l 13 (10 ∷ joined ls)))
-    ∙ line-ended (l ++ 13 ∷ []) (joined ls) (whole-line l (h .0))
+    ap linesOf (sym (append-snoc l 13 (10 ∷ withLineEnds ls)))
+    ∙ line-ended (l ++ 13 ∷ []) (withLineEnds ls) (whole-line l (h .0))
     ∙ rw (cr-dropped l, lines-joined ls (h .1))
 
 -- ---- the lines of a text of bytes hold bytes, and no LF

@@ -15,14 +15,14 @@ use Rattle.language.specs.Script.{Statement, Meaning, says, process, Set
 use Rattle.language.specs.Meaning.{meaning}
 use Rattle.language.specs.Listing.{lineFor, itemLine, itemLines}
 use Rattle.language.specs.Right.{right, allRight, dataIn, nextsIn, mayNest, depthAfter, nests}
-use Rattle.language.specs.Draft.{Result, Draft, going, countLine, withItem, now, nest, takeNested, takeStatement, withNext, withFirst, beginning, takeProcess, take, takeCounted, isComment, takeLine, stretched, finished, after, fold}
+use Rattle.language.specs.Draft.{Result, Draft, going, countLine, withItem, now, nest, takeNested, takeStatement, withNext, withFirst, beginning, takeProcess, takeMeaning, takeCounted, isComment, takeLine, stretched, finished, goOn, fold}
 use Rattle.language.proofs.Back.{back}
 use Rattle.language.proofs.Room.{fine}
 use Rattle.language.proofs.Settings.{process-said, process-fine}
 
 -- a line that is short enough and counts is taken by its meaning
 pub line-taken : (row : ℕ) (st : Draft) (l : List ℕ) (m : Meaning) → meaning l ≡ m → isComment m ≡ false → length l ≤ lineLimit → st .counted < linesLimit
-    → takeLine row st l ≡ take row (countLine st) m
+    → takeLine row st l ≡ takeMeaning row (countLine st) m
 unfolding takeLine takeCounted
 line-taken row st l m e c short few = rw (le-ltb lineLimit (length l) short, e, c, lt-ltb (st .counted) linesLimit few)
 
@@ -38,19 +38,19 @@ nest-right row stays ls h = (ls, refl, refl)
 module _ (row : ℕ) (st : Draft) (few : st .counted < linesLimit) where
   pub statement-taken : (s : Statement) (ls : List ℕ) → right s ≡ true → st .used + length (dataOf s) ≤ dataLimit → nest row (shape s) (st .loops) ≡ now ls
       → takeLine row st (lineFor s) ≡ going (withItem (countLine st) ls s)
-  unfolding isComment take takeStatement countLine takeNested
+  unfolding isComment takeMeaning takeStatement countLine takeNested
   statement-taken s ls r u n =
       line-taken row st (lineFor s) (says s) (back s r) refl (fine s r .fits) few
       ∙ rw (le-leb (st .used + length (dataOf s)) dataLimit u, n)
 
   pub next-taken : st .loops ≡ [] → st .begun ≡ true → st .count < processLimit → takeLine row st (ascii "#PROCESS") ≡ going (withNext (countLine st))
-  unfolding isComment take countLine takeProcess beginning
+  unfolding isComment takeMeaning countLine takeProcess beginning
   next-taken l b c =
       line-taken row st (ascii "#PROCESS") process process-said refl (process-fine .fits) few
       ∙ rw (l, b, lt-ltb (st .count) processLimit c)
 
   pub first-taken : st .loops ≡ [] → st .begun ≡ false → takeLine row st (ascii "#PROCESS") ≡ going (withFirst (countLine st))
-  unfolding isComment take countLine takeProcess beginning
+  unfolding isComment takeMeaning countLine takeProcess beginning
   first-taken l b =
       line-taken row st (ascii "#PROCESS") process process-said refl (process-fine .fits) few
       ∙ rw (l, b)
@@ -126,7 +126,7 @@ step-next is row st b f =
 module _ (stretch : List Statement → ℕ) where
   pub fold-on : (l : List ℕ) (ls : List (List ℕ)) (row : ℕ) (st st₁ : Draft) → takeLine row st l ≡ going st₁
       → fold stretch (l ∷ ls) row st ≡ fold stretch ls (row + 1) st₁
-  unfolding fold after
+  unfolding fold goOn
   fold-on l ls row st st₁ e = rw e
 
   -- the answer to a whole body

@@ -6,7 +6,7 @@ use native.Mathlib.Nat.{div-add-mod'}
 use native.Mathlib.Omega.{arith}
 use borrow.Author.Tests.{lt-ltb}
 use Rattle.reader.proofs.Tests.{Every}
-use Rattle.hex.specs.Hex.{good, before, stepOf, hexGo}
+use Rattle.hex.specs.Hex.{good, byteBefore, stepOf, hexGo}
 use Rattle.hex.specs.declared.HexStep.the-variants.{First, Whole}
 use Rattle.writer.specs.Hex.{capital, hexText}
 use Rattle.writer.proofs.Hexes.{capital-digit}
@@ -20,7 +20,7 @@ unfolding stepOf
 second-half c d k h = rw (capital-digit d h) (simp (lt-ltb d 16 h, lt-ltb c 16 k))
 
 pub hex-back : (bs : List ℕ) (at : ℕ) → Every (λ b. b < 256) bs → hexGo (hexText bs) 16 at ≡ good bs
-unfolding hexGo hexText before
+unfolding hexGo hexText byteBefore
 hex-back [] at h = refl
 hex-back (b ∷ bs) at h =
     let byte : b < 256 = h .0 in

@@ -1,5 +1,7 @@
+pub mod Signing
 pub mod Opened
 pub mod Cells
+pub mod TableCells
 pub mod Tables
 pub mod Examples
 pub mod Bytes
@@ -16,7 +18,9 @@ pub mod Longest
 pub mod Round
 pub mod Reading
 pub mod Gaps
+pub mod MeaningValues
 pub mod Meanings
+pub mod SoundBody
 pub mod Sound
 pub mod Accepted
 pub mod Trip

@@ -9,7 +9,7 @@ use Rattle.language.specs.Stretch.{stretchOf}
 use Rattle.language.specs.Listing.{listing}
 use Rattle.language.specs.Right.{isByte, inLine, dataRight, inRanges, clockRight, right, encodeRight, settingsRight, allRight, dataIn, nextsIn, mayNest, depthAfter, nests, allBelow, scriptRight}
 use Rattle.language.proofs.Opened.{printed}
-use Rattle.language.proofs.Size.{listingLimit}
+use Rattle.language.specs.Limits.{listingLimit}
 
 -- ten OMIT bytes, 493 clock values of four units, and 1,024 bytes in hex, as many to a line as it has room for
 pub longest : Script

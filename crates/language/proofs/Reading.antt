@@ -9,8 +9,8 @@ use lib.Dec.{ltb, leb, eqb}
 use lib.ListN.{length, drop}
 use borrow.Author.Tests.{ltb-true, lt-ltb, leb-true}
 use Rattle.reader.specs.Bytes.{digitOf, isBlank, all, same}
-use Rattle.numbers.specs.Number.{ended, numberGo, numberAt, secondOf, pairOf, pairAt}
-use Rattle.hex.specs.Hex.{Said, before, stepOf, after, hexGo, hexAt, hexSecond, hexByteOf, hexByteAt, good, bad}
+use Rattle.numbers.specs.Number.{digitsEnded, numberGo, numberAt, secondOf, pairOf, pairAt}
+use Rattle.hex.specs.Hex.{Said, byteBefore, stepOf, afterStep, hexGo, hexAt, hexSecond, hexByteOf, hexByteAt, good, bad}
 use Rattle.numbers.specs.declared.Number.{Number}
 use Rattle.numbers.specs.declared.Number.the-variants.{Value, Bad}
 use Rattle.hex.specs.declared.HexStep.{HexStep}
@@ -29,8 +29,8 @@ abbrev pub Reads : (ℕ → Type 0) → Number → Type 0
 Reads P (Value v next) = P v
 Reads P (Bad at) = Unit {0}
 
-when-before : (P Q : List ℕ → Type 0) (v : ℕ) (x : Said) → ((vs : List ℕ) → P vs → Q (v ∷ vs)) → When P x → When Q (before v x)
-unfolding before
+when-before : (P Q : List ℕ → Type 0) (v : ℕ) (x : Said) → ((vs : List ℕ) → P vs → Q (v ∷ vs)) → When P x → When Q (byteBefore v x)
+unfolding byteBefore
 when-before P Q v (good vs) f h = f vs h
 when-before P Q v (bad at) f h = tt
 
@@ -40,8 +40,8 @@ when-weaker P Q (bad at) f h = tt
 
 -- ---- numbers
 
-ended-reads : (P : ℕ → Type 0) (n v at : ℕ) → P v → Reads P (ended n v at)
-unfolding ended
+ended-reads : (P : ℕ → Type 0) (n v at : ℕ) → P v → Reads P (digitsEnded n v at)
+unfolding digitsEnded
 ended-reads P n v at h = by-cases (Reads P) (ltb 0 n) (Value v at) (Bad at) (λ e. h) (λ e. tt)
 
 go-reads : (most limit : ℕ) (l : List ℕ) (n v at : ℕ) → v ≤ limit → Reads (λ x. x ≤ limit) (numberGo most limit l n v at)
@@ -49,7 +49,7 @@ unfolding numberGo
 go-reads most limit [] n v at h = ended-reads (λ x. x ≤ limit) n v at h
 go-reads most limit (b ∷ l) n v at h =
     let w : ℕ = v * 10 + digitOf b in
-    by-cases (Reads (λ x. x ≤ limit)) (ltb (digitOf b) 10) _ (ended n v at)
+    by-cases (Reads (λ x. x ≤ limit)) (ltb (digitOf b) 10) _ (digitsEnded n v at)
     (λ e. by-cases (Reads (λ x. x ≤ limit)) (ltb n most) _ (Bad at)
     (λ e₁. by-cases (Reads (λ x. x ≤ limit)) (leb w limit) (numberGo most limit l (n + 1) w (at + 1)) (Bad at)
     (λ e₂. go-reads most limit l (n + 1) w (at + 1) (leb-true w limit e₂)) (λ e₂. tt)) (λ e₁. tt))
@@ -93,7 +93,7 @@ hex-right (b ∷ l) half at =
     (λ e₁. tt))
   where
     Goes : HexStep → Type 0
-    Goes st = When (Bytes (waiting half + suc (length l))) (after at st (hexGo l 16 (at + 1)) (λ h. hexGo l h (at + 1)))
+    Goes st = When (Bytes (waiting half + suc (length l))) (afterStep at st (hexGo l 16 (at + 1)) (λ h. hexGo l h (at + 1)))
 
     one : (d : ℕ) → waiting d + length l ≤ waiting half + suc (length l)
     one d = by-cases (λ (n : ℕ). n + length l ≤ waiting half + suc (length l)) (ltb d 16) 1 0 (λ e. omega arith) (λ e. omega arith)
@@ -101,7 +101,7 @@ hex-right (b ∷ l) half at =
     whole : (v : ℕ) → half < 16 → v < 256 → When (Bytes (0 + length l)) (hexGo l 16 (at + 1)) → Goes (Whole v)
     whole v h k r =
         rw (lt-ltb half 16 h)
-        (weaker (before v (hexGo l 16 (at + 1))) (omega arith)
+        (weaker (byteBefore v (hexGo l 16 (at + 1))) (omega arith)
         (when-before (Bytes (0 + length l)) (Bytes (2 + (0 + length l))) v (hexGo l 16 (at + 1)) (λ bs q. one-more (0 + length l) v bs k q) r))
 
 pub hex-data-right : (l : List ℕ) → When (Bytes (length l)) (hexAt l 0)

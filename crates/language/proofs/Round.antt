@@ -7,7 +7,7 @@ use native.Mathlib.Omega.{arith}
 use lib.Dec.{leb}
 use lib.ListN.{length}
 use borrow.Author.Tests.{le-leb}
-use Rattle.runs.specs.Cap.{limit}
+use Rattle.figures.specs.Cap.{limit}
 use Rattle.reader.specs.Ascii.{ascii}
 use Rattle.reader.specs.Bytes.{all, same}
 use Rattle.writer.specs.Hex.{hexText}
@@ -16,9 +16,9 @@ use Rattle.reader.proofs.Same.{same-is}
 use Rattle.language.specs.Limits.{textLimit, linesLimit, dataLimit, omitLimit, processLimit}
 use Rattle.language.specs.Script.{Statement, setEncode, setStopbits, setOmit, setLfext, Encode, unset, byte, Settings, default, Item, does, next, Script, processes}
 use Rattle.language.specs.Meaning.{extension}
-use Rattle.language.specs.Listing.{lineFor, itemLine, itemLines, bodyLines, when, encodeLines, settingLines, listedLines, joined, listing}
+use Rattle.language.specs.Listing.{lineFor, itemLine, itemLines, bodyLines, lineIf, encodeLines, settingLines, listedLines, withLineEnds, listing}
 use Rattle.language.specs.Right.{isByte, encodeRight, allRight, dataIn, nextsIn, nests, allBelow}
-use Rattle.language.specs.Draft.{Result, accepted, Draft, start, countLine, withSettings, withFirst, takeOmit, take, isComment, stretched, finished, fold, resultOf}
+use Rattle.language.specs.Draft.{Result, accepted, Draft, start, countLine, withSettings, withFirst, takeOmit, takeMeaning, isComment, stretched, finished, fold, resultOf}
 use Rattle.language.proofs.Settings.{encode-said, encode-fine, stopbits-said, stopbits-fine, omit-said, omit-fine, lfext-said, lfext-fine}
 use Rattle.language.proofs.Cutting.{lines-joined}
 use Rattle.language.proofs.Folding.{line-taken, first-taken, items-length, Fits, step-does, fold-on, Done, goes-on, items-taken}
@@ -79,7 +79,7 @@ module _ (stretch : List Statement → ℕ) where
 
   encode-leads : (e : Encode) (ls : List (List ℕ)) (a : Result) → encodeRight e ≡ true
       → Leads ls (λ c. opening c e false [] (ascii "LOG")) a → Leads (encodeLines e ++ ls) (λ c. opening c unset false [] (ascii "LOG")) a
-  unfolding encodeLines encodeRight take countLine withSettings isComment
+  unfolding encodeLines encodeRight takeMeaning countLine withSettings isComment
   encode-leads unset ls a h onward row c k = onward row c k
   encode-leads (byte b) ls a h onward row c k =
       fold-on stretch _ ls row (opening c unset false [] (ascii "LOG")) (opening (c + 1) (byte b) false [] (ascii "LOG"))
@@ -87,8 +87,8 @@ module _ (stretch : List Statement → ℕ) where
       ∙ onward (row + 1) (c + 1) (omega arith)
 
   stopbits-leads : (e : Encode) (t : Bool) (ls : List (List ℕ)) (a : Result)
-      → Leads ls (λ c. opening c e t [] (ascii "LOG")) a → Leads (when t (ascii "#f:STOPBITS 2") ++ ls) (λ c. opening c e false [] (ascii "LOG")) a
-  unfolding take countLine withSettings isComment
+      → Leads ls (λ c. opening c e t [] (ascii "LOG")) a → Leads (lineIf t (ascii "#f:STOPBITS 2") ++ ls) (λ c. opening c e false [] (ascii "LOG")) a
+  unfolding takeMeaning countLine withSettings isComment
   stopbits-leads e false ls a onward row c k = onward row c k
   stopbits-leads e true ls a onward row c k =
       fold-on stretch _ ls row (opening c e false [] (ascii "LOG")) (opening (c + 1) e true [] (ascii "LOG"))
@@ -97,8 +97,8 @@ module _ (stretch : List Statement → ℕ) where
 
   omit-leads : (e : Encode) (t : Bool) (o : List ℕ) (ls : List (List ℕ)) (a : Result) → all isByte o ≡ true → length o ≤ omitLimit
       → Leads ls (λ c. opening c e t o (ascii "LOG")) a
-      → Leads (when (not (same o [])) (ascii "#f:OMIT :" ++ hexText o) ++ ls) (λ c. opening c e t [] (ascii "LOG")) a
-  unfolding same take countLine withSettings isComment takeOmit
+      → Leads (lineIf (not (same o [])) (ascii "#f:OMIT :" ++ hexText o) ++ ls) (λ c. opening c e t [] (ascii "LOG")) a
+  unfolding same takeMeaning countLine withSettings isComment takeOmit
   omit-leads e t [] ls a h k onward row c l = onward row c l
   omit-leads e t (b ∷ o) ls a h k onward row c l =
       fold-on stretch _ ls row (opening c e t [] (ascii "LOG")) (opening (c + 1) e t (b ∷ o) (ascii "LOG"))
@@ -108,12 +108,12 @@ module _ (stretch : List Statement → ℕ) where
 
   lfext-leads : (e : Encode) (t : Bool) (o x : List ℕ) (ls : List (List ℕ)) (a : Result) → extension x ≡ true
       → Leads ls (λ c. opening c e t o x) a
-      → Leads (when (not (same x (ascii "LOG"))) (ascii "#f:LFEXT " ++ x) ++ ls) (λ c. opening c e t o (ascii "LOG")) a
-  unfolding take countLine withSettings isComment
+      → Leads (lineIf (not (same x (ascii "LOG"))) (ascii "#f:LFEXT " ++ x) ++ ls) (λ c. opening c e t o (ascii "LOG")) a
+  unfolding takeMeaning countLine withSettings isComment
   lfext-leads e t o x ls a h onward = go (same x (ascii "LOG")) refl
     where
       go : (d : Bool) → same x (ascii "LOG") ≡ d
-          → Leads (when (not d) (ascii "#f:LFEXT " ++ x) ++ ls) (λ c. opening c e t o (ascii "LOG")) a
+          → Leads (lineIf (not d) (ascii "#f:LFEXT " ++ x) ++ ls) (λ c. opening c e t o (ascii "LOG")) a
       go true q row c l = subst (λ (y : List ℕ). Leads ls (λ c. opening c e t o y) a) (same-is x (ascii "LOG") q) onward row c l
       go false q row c l =
           fold-on stretch _ ls row (opening c e t o (ascii "LOG")) (opening (c + 1) e t o x)
@@ -149,4 +149,4 @@ module _ (stretch : List Statement → ℕ) where
   unfolding resultOf listing
   round s g =
       let size : length (listing s) ≤ textLimit = omega (arith, listing-size stretch s g) in
-      rw (le-leb (length (joined (listedLines s))) textLimit size, lines-joined (listedLines s) (lines-whole stretch s g)) (lines-back s g)
+      rw (le-leb (length (withLineEnds (listedLines s))) textLimit size, lines-joined (listedLines s) (lines-whole stretch s g)) (lines-back s g)

@@ -9,9 +9,9 @@ use lib.ListN.{length, length-append}
 use Rattle.reader.specs.Ascii.{ascii}
 use Rattle.reader.specs.Bytes.{all, same}
 use Rattle.reader.proofs.Tests.{both-left, both-right, all-append}
-use Rattle.language.specs.Limits.{lineLimit}
+use Rattle.language.specs.Limits.{lineLimit, listingLimit}
 use Rattle.language.specs.Script.{Statement, Encode, unset, byte, Settings, Item, does, next, Script, dataOf}
-use Rattle.language.specs.Listing.{itemLine, itemLines, bodyLines, when, encodeLines, settingLines, listedLines, joined, listing}
+use Rattle.language.specs.Listing.{itemLine, itemLines, bodyLines, lineIf, encodeLines, settingLines, listedLines, withLineEnds, listing}
 use Rattle.language.specs.Right.{isByte, inLine, right, encodeRight, allRight, dataIn}
 use Rattle.language.proofs.Bytes.{line-bytes}
 use Rattle.language.proofs.Good.{RightSettings, Good}
@@ -28,15 +28,15 @@ fine-each : (P : List ℕ → Type 0) → ((u : ℕ) (l : List ℕ) → Fine u l
 fine-each P f none = tt
 fine-each P f (more {l = l} {u = u} h r k) = (f u l h, fine-each P f r)
 
-fine-bytes : {ls : List (List ℕ)} {u : ℕ} → FineLines ls u → all isByte (joined ls) ≡ true
-unfolding joined isByte
+fine-bytes : {ls : List (List ℕ)} {u : ℕ} → FineLines ls u → all isByte (withLineEnds ls) ≡ true
+unfolding withLineEnds isByte
 fine-bytes none = refl
-fine-bytes (more {l = l} {ls = ls} f r h) = all-append isByte l (13 ∷ 10 ∷ joined ls) (line-bytes l (f .whole)) (fine-bytes r)
+fine-bytes (more {l = l} {ls = ls} f r h) = all-append isByte l (13 ∷ 10 ∷ withLineEnds ls) (line-bytes l (f .whole)) (fine-bytes r)
 
-fine-size : {ls : List (List ℕ)} {u : ℕ} → FineLines ls u → length (joined ls) * 57 ≤ length ls * 1311 + u
-unfolding joined
+fine-size : {ls : List (List ℕ)} {u : ℕ} → FineLines ls u → length (withLineEnds ls) * 57 ≤ length ls * 1311 + u
+unfolding withLineEnds
 fine-size none = omega arith
-fine-size (more {l = l} {ls = ls} f r h) = omega (arith, f .small, fine-size r, length-append l (13 ∷ 10 ∷ joined ls))
+fine-size (more {l = l} {ls = ls} f r h) = omega (arith, f .small, fine-size r, length-append l (13 ∷ 10 ∷ withLineEnds ls))
 
 fine-up : {ls : List (List ℕ)} {u w : ℕ} → FineLines ls u → u ≤ w → FineLines ls w
 fine-up none k = none
@@ -62,7 +62,7 @@ body-fine [] h = none
 body-fine (does s ∷ is) h = items-fine (does s ∷ is) h
 body-fine (next ∷ is) h = more {w = dataIn (next ∷ is) * 105} process-fine (items-fine (next ∷ is) h) (omega arith)
 
-when-fine : (t : Bool) (l : List ℕ) {u : ℕ} → Fine u l → FineLines (when t l) u
+when-fine : (t : Bool) (l : List ℕ) {u : ℕ} → Fine u l → FineLines (lineIf t l) u
 when-fine true l f = one f
 when-fine false l f = none
 
@@ -78,10 +78,6 @@ settings-fine s r =
     (fine-append {u = 0} {v = 456} (when-fine (s .twoStopbits) _ stopbits-fine)
     (fine-append {u = 456} {v = 0} (when-fine (not (same (s .omit) [])) _ (omit-fine (s .omit) (r .omit) (r .omitted)))
     (when-fine (not (same (s .lfext) (ascii "LOG"))) _ (lfext-fine (s .lfext) (r .lfext))) (omega arith)) (omega arith)) (omega arith)
-
--- the longest listing
-abbrev pub listingLimit : ℕ
-listingLimit = 13670
 
 module _ (stretch : List Statement → ℕ) where
   listed-fine : (s : Script) → Good stretch s → FineLines (listedLines s) (456 + dataIn (s .body) * 105)

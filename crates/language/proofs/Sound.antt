@@ -1,5 +1,4 @@
 -- WHAT HOLDS OF THE DRAFT BETWEEN LINES: what it has is right, within the limits, and takes no more listed lines than were counted.
--- Assumes nothing.
 use Prim.Native.Nat.{ℕ, suc, _+_, _≤_, _<_}
 use mathlib.Core.Path.{_≡_, refl, ap, subst, _∙_}
 use mathlib.Core.Bool.{Bool, true, false, cond, not}
@@ -12,92 +11,22 @@ use borrow.Author.Tests.{ltb-true, ltb-false, leb-true, lt-ltb}
 use Rattle.reader.specs.Ascii.{ascii}
 use Rattle.reader.specs.Bytes.{all, same}
 use Rattle.writer.specs.Hex.{hexText}
-use Rattle.reader.proofs.Tests.{all-append, both, both-left, both-right, by-cases}
-use Rattle.language.specs.declared.Fault.the-variants.{LineTooLong, TooManyLines, TooMuchData, TooManyOmits, TooManyLoops, TooManyProcesses}
+use Rattle.reader.proofs.Tests.{all-append, both, both-left, by-cases}
+use Rattle.language.specs.declared.TextFault.the-variants.{LineTooLong, TooManyLines, TooMuchData, TooManyOmits, TooManyLoops, TooManyProcesses}
 use Rattle.language.specs.Limits.{lineLimit, linesLimit, dataLimit, omitLimit, loopLimit, processLimit}
 use Rattle.language.specs.Script.{Statement, Meaning, comment, blank, process, setEx, says, setEncode, setStopbits, setOmit, setLfext, fault, Encode, byte, Settings, default, Item, does, next, Shape, opens, closes, stays, shape, dataOf}
 use Rattle.language.specs.Meaning.{meaning, isCapital, extension}
-use Rattle.language.specs.Listing.{bodyLines, when, encodeLines, settingLines}
-use Rattle.language.specs.Right.{isByte, inLine, dataRight, right, meaningRight, encodeRight, allRight, dataIn, nextsIn, mayNest, depthAfter, nests}
-use Rattle.language.specs.Draft.{Draft, start, Taken, going, stop, countLine, withSettings, withItem, now, broken, nest, takeNested, takeStatement, withNext, withFirst, beginning, takeProcess, takeOmit, take, takeCounted, isComment, takeLine}
+use Rattle.language.specs.Listing.{lineIf, encodeLines, settingLines}
+use Rattle.language.specs.Right.{isByte, inLine, dataRight, right, encodeRight, allRight, dataIn, nextsIn, mayNest, depthAfter, nests}
+use Rattle.language.specs.inside.Right.{meaningRight}
+use Rattle.language.specs.Draft.{Draft, start, LineTaken, going, stop, countLine, withSettings, withItem, now, broken, nest, takeNested, takeStatement, withNext, withFirst, beginning, takeProcess, takeOmit, takeMeaning, takeCounted, isComment, takeLine}
 use Rattle.language.proofs.Meanings.{meaning-right}
-use Rattle.language.proofs.Folding.{items-length}
 use Rattle.language.proofs.Good.{RightSettings}
-
--- how many lines the body needs: a first process that is empty takes a PROCESS line of its own
-pub needs : Bool → List Item → ℕ
-needs begun [] = cond begun 1 0
-needs begun (does s ∷ is) = 1 + length is
-needs begun (next ∷ is) = 2 + length is
-
--- what holds of the draft between lines; `spare` lines are counted and not yet used
-pub record Sound (spare : ℕ) (st : Draft) : Type 0 where
-  pub settings : RightSettings (st .settings)
-  pub rights : allRight (st .body) ≡ true
-  pub used : st .used ≡ dataIn (st .body)
-  pub bytes : st .used ≤ dataLimit
-  pub nested : (rest : List Item) → nests (st .body ++ rest) 0 ≡ nests rest (length (st .loops))
-  pub deep : length (st .loops) ≤ loopLimit
-  pub count : st .count ≡ 1 + nextsIn (st .body)
-  pub few : st .count ≤ processLimit
-  pub lines : length (settingLines (st .settings)) + needs (st .begun) (st .body) + spare ≤ st .counted
-  pub counted : st .counted ≤ linesLimit
-
--- ---- laws of the body
-
-rights-snoc : (is : List Item) (i : Item) → allRight is ≡ true → allRight (i ∷ []) ≡ true → allRight (is ++ i ∷ []) ≡ true
-unfolding allRight
-rights-snoc [] i h r = r
-rights-snoc (does x ∷ is) i h r =
-    both (right x) (allRight (is ++ i ∷ [])) (both-left (right x) (allRight is) h) (rights-snoc is i (both-right (right x) (allRight is) h) r)
-rights-snoc (next ∷ is) i h r = rights-snoc is i h r
-
-data-snoc : (is : List Item) (i : Item) → dataIn (is ++ i ∷ []) ≡ dataIn is + dataIn (i ∷ [])
-unfolding dataIn
-data-snoc [] i = omega arith
-data-snoc (does s ∷ is) i = omega (arith, data-snoc is i)
-data-snoc (next ∷ is) i = data-snoc is i
-
-nexts-snoc : (is : List Item) (i : Item) → nextsIn (is ++ i ∷ []) ≡ nextsIn is + nextsIn (i ∷ [])
-unfolding nextsIn
-nexts-snoc [] i = omega arith
-nexts-snoc (does s ∷ is) i = nexts-snoc is i
-nexts-snoc (next ∷ is) i = omega (arith, nexts-snoc is i)
-
-needs-does : (begun : Bool) (is : List Item) (s : Statement) → needs true (is ++ does s ∷ []) ≤ needs begun is + 1
-unfolding needs
-needs-does begun [] s = omega arith
-needs-does begun (does x ∷ is) s = omega (arith, length-append is (does s ∷ []))
-needs-does begun (next ∷ is) s = omega (arith, length-append is (does s ∷ []))
-
-needs-next : (is : List Item) → needs true (is ++ next ∷ []) ≤ needs true is + 1
-unfolding needs
-needs-next [] = omega arith
-needs-next (does x ∷ is) = omega (arith, length-append is (next ∷ []))
-needs-next (next ∷ is) = omega (arith, length-append is (next ∷ []))
-
-needs-first : (is : List Item) → needs true is ≤ needs false is + 1
-unfolding needs
-needs-first [] = omega arith
-needs-first (does x ∷ is) = omega arith
-needs-first (next ∷ is) = omega arith
-
-pub needs-listed : (begun : Bool) (is : List Item) → length (bodyLines is) ≤ needs begun is
-unfolding needs bodyLines
-needs-listed begun [] = omega arith
-needs-listed begun (does s ∷ is) = omega (arith, items-length (does s ∷ is))
-needs-listed begun (next ∷ is) = omega (arith, items-length (next ∷ is))
-
--- a statement that may stand leaves at most eight loops open
-deeper : (sh : Shape) (depth : ℕ) → mayNest sh depth ≡ true → depth ≤ loopLimit → depthAfter sh depth ≤ loopLimit
-unfolding mayNest depthAfter
-deeper stays depth m h = h
-deeper opens depth m h = omega (arith, ltb-true depth loopLimit m)
-deeper closes depth m h = omega arith
+use Rattle.language.proofs.SoundBody.{needs, Sound, rights-snoc, data-snoc, nexts-snoc, needs-does, needs-next, needs-first, deeper}
 
 -- ---- what a line leaves
 
-abbrev pub Holds : Taken → Type 0
+abbrev pub Holds : LineTaken → Type 0
 Holds (going st) = Sound 0 st
 Holds (stop n row) = Unit {0}
 
@@ -208,7 +137,7 @@ module _ (row : ℕ) (st : Draft) (i : Sound 1 st) where
 
 -- ---- settings
 
-when-one : (t : Bool) (l : List ℕ) → length (when t l) ≤ 1
+when-one : (t : Bool) (l : List ℕ) → length (lineIf t l) ≤ 1
 when-one true l = omega arith
 when-one false l = omega arith
 
@@ -217,13 +146,13 @@ encodeNeeds : Encode → ℕ
 encodeNeeds e = length (encodeLines e)
 
 stopbitsNeeds : Bool → ℕ
-stopbitsNeeds t = length (when t (ascii "#f:STOPBITS 2"))
+stopbitsNeeds t = length (lineIf t (ascii "#f:STOPBITS 2"))
 
 omitNeeds : List ℕ → ℕ
-omitNeeds o = length (when (not (same o [])) (ascii "#f:OMIT :" ++ hexText o))
+omitNeeds o = length (lineIf (not (same o [])) (ascii "#f:OMIT :" ++ hexText o))
 
 lfextNeeds : List ℕ → ℕ
-lfextNeeds x = length (when (not (same x (ascii "LOG"))) (ascii "#f:LFEXT " ++ x))
+lfextNeeds x = length (lineIf (not (same x (ascii "LOG"))) (ascii "#f:LFEXT " ++ x))
 
 settings-length : (s : Settings)
     → length (settingLines s) ≡ encodeNeeds (s .encode) + (stopbitsNeeds (s .twoStopbits) + (omitNeeds (s .omit) + lfextNeeds (s .lfext)))
@@ -242,8 +171,8 @@ lfext-one : (x : List ℕ) → lfextNeeds x ≤ 1
 unfolding lfextNeeds
 lfext-one x = when-one (not (same x (ascii "LOG"))) (ascii "#f:LFEXT " ++ x)
 
-take-on : (row : ℕ) (st : Draft) (m : Meaning) → Sound 1 st → meaningRight m ≡ true → Holds (take row st m)
-unfolding take meaningRight takeOmit encodeRight dataRight
+take-on : (row : ℕ) (st : Draft) (m : Meaning) → Sound 1 st → meaningRight m ≡ true → Holds (takeMeaning row st m)
+unfolding takeMeaning meaningRight takeOmit encodeRight dataRight
 take-on row st comment i h = relaxed st i
 take-on row st blank i h = relaxed st i
 take-on row st process i h = process-on row st i

@@ -9,7 +9,7 @@ use Rattle.language.specs.declared.Clock.{Clock}
 use Rattle.language.specs.declared.Level.{Level}
 use Rattle.language.specs.declared.Cell.{Cell}
 use Rattle.language.specs.declared.Cell.the-variants.{Nothing, Send, Loop, End, WaitTime, WaitData, WaitByte, WaitClock, WaitSignal, Rts, Log, Fchange, Pause, Resume, Nop, Unknown}
-use Rattle.language.specs.Limits.{dataLimit, sendRoom, waitRoom, logRoom}
+use Rattle.language.specs.Limits.{sendRoom, waitRoom, logRoom, poolPlaces}
 use Rattle.language.specs.Clock.{Range, range, within}
 use Rattle.language.specs.Right.{timeRight}
 
@@ -86,7 +86,7 @@ coded c = kindOf c * 67108864 + argumentOf c % 67108864
 
 -- so many bytes as a line can hold, within the pool
 unfoldable pub spanRight : ℕ → ℕ → Span → Bool
-spanRight low high s = leb low (s .count) && (leb (s .count) high && leb (s .from + s .count) dataLimit)
+spanRight low high s = leb low (s .count) && (leb (s .count) high && leb (s .from + s .count) poolPlaces)
 
 -- a unit that is fixed is in its range, any other is 0
 unfoldable pub unitRight : Bool → Range → ℕ → Bool
@@ -102,30 +102,11 @@ fixedRight c =
     && (unitRight (leb 2 (c .fixed)) (range 0 59) (c .minute)
     && unitRight (leb 1 (c .fixed)) (range 0 59) (c .second))))
 
--- the ranges that the section "Lines" gives each statement
-unfoldable pub cellRight : Cell → Bool
-cellRight Nothing = true
-cellRight (Send s) = spanRight 0 sendRoom s
-cellRight (Loop n) = leb n 60000
-cellRight End = true
-cellRight (WaitTime n) = timeRight n
-cellRight (WaitData s) = spanRight 1 waitRoom s
-cellRight (WaitByte n) = leb n 60000
-cellRight (WaitClock c) = fixedRight c
-cellRight (WaitSignal l) = leb (l .signal) 4
-cellRight (Rts on) = true
-cellRight (Log s) = spanRight 0 logRoom s
-cellRight Fchange = true
-cellRight Pause = true
-cellRight Resume = true
-cellRight Nop = true
-cellRight Unknown = false
-
 -- ---- the cell of a word
 
 -- a cell whose argument a line can have, or Unknown
-abbrev pub when : Bool → Cell → Cell
-when ok c = cond ok c Unknown
+abbrev pub orUnknown : Bool → Cell → Cell
+orUnknown ok c = cond ok c Unknown
 
 -- a range back from its number
 abbrev pub spanOf : ℕ → Span
@@ -138,21 +119,21 @@ clockOfNumber a = clock (a / 4194304) (a / 131072 % 32) (a / 4096 % 32) (a / 64 
 -- the cell of a kind and an argument: none but `cellRight` ones
 unfoldable pub cellOf : ℕ → ℕ → Cell
 cellOf kind a =
-    cond (eqb kind 0) (when (eqb a 0) Nothing)
-    (cond (eqb kind 1) (when (spanRight 0 sendRoom (spanOf a)) (Send (spanOf a)))
-    (cond (eqb kind 2) (when (leb a 60000) (Loop a))
-    (cond (eqb kind 3) (when (eqb a 0) End)
-    (cond (eqb kind 4) (when (timeRight a) (WaitTime a))
-    (cond (eqb kind 5) (when (spanRight 1 waitRoom (spanOf a)) (WaitData (spanOf a)))
-    (cond (eqb kind 6) (when (leb a 60000) (WaitByte a))
-    (cond (eqb kind 7) (when (fixedRight (clockOfNumber a)) (WaitClock (clockOfNumber a)))
-    (cond (eqb kind 8) (when (ltb a 10) (WaitSignal (level (a / 2) (eqb (a % 2) 1))))
-    (cond (eqb kind 9) (when (ltb a 2) (Rts (eqb a 1)))
-    (cond (eqb kind 10) (when (spanRight 0 logRoom (spanOf a)) (Log (spanOf a)))
-    (cond (eqb kind 11) (when (eqb a 0) Fchange)
-    (cond (eqb kind 12) (when (eqb a 0) Pause)
-    (cond (eqb kind 13) (when (eqb a 0) Resume)
-    (cond (eqb kind 14) (when (eqb a 0) Nop) Unknown))))))))))))))
+    cond (eqb kind 0) (orUnknown (eqb a 0) Nothing)
+    (cond (eqb kind 1) (orUnknown (spanRight 0 sendRoom (spanOf a)) (Send (spanOf a)))
+    (cond (eqb kind 2) (orUnknown (leb a 60000) (Loop a))
+    (cond (eqb kind 3) (orUnknown (eqb a 0) End)
+    (cond (eqb kind 4) (orUnknown (timeRight a) (WaitTime a))
+    (cond (eqb kind 5) (orUnknown (spanRight 1 waitRoom (spanOf a)) (WaitData (spanOf a)))
+    (cond (eqb kind 6) (orUnknown (leb a 60000) (WaitByte a))
+    (cond (eqb kind 7) (orUnknown (fixedRight (clockOfNumber a)) (WaitClock (clockOfNumber a)))
+    (cond (eqb kind 8) (orUnknown (ltb a 10) (WaitSignal (level (a / 2) (eqb (a % 2) 1))))
+    (cond (eqb kind 9) (orUnknown (ltb a 2) (Rts (eqb a 1)))
+    (cond (eqb kind 10) (orUnknown (spanRight 0 logRoom (spanOf a)) (Log (spanOf a)))
+    (cond (eqb kind 11) (orUnknown (eqb a 0) Fchange)
+    (cond (eqb kind 12) (orUnknown (eqb a 0) Pause)
+    (cond (eqb kind 13) (orUnknown (eqb a 0) Resume)
+    (cond (eqb kind 14) (orUnknown (eqb a 0) Nop) Unknown))))))))))))))
 
 -- what every word says; Unknown where no line has such a cell
 unfoldable pub decoded : ℕ → Cell

@@ -7,7 +7,7 @@ use lib.ListN.{drop}
 use lib.Dec.{leb, eqb}
 use Rattle.reader.specs.Bytes.{same}
 use Rattle.numbers.specs.Number.{pairAt}
-use Rattle.hex.specs.Hex.{Said, before, good, bad}
+use Rattle.hex.specs.Hex.{Said, byteBefore, good, bad}
 use Rattle.writer.specs.Put.{twoDigits}
 use Rattle.numbers.specs.declared.Number.{Number}
 use Rattle.numbers.specs.declared.Number.the-variants.{Value, Bad}
@@ -43,13 +43,13 @@ dayOn = range 1 31 ∷ hourOn
 
 -- a value that was read, in front of the others
 unfoldable pub valueBefore : Number → Said → Said
-valueBefore (Value v next) rest = before v rest
+valueBefore (Value v next) rest = byteBefore v rest
 valueBefore (Bad at) rest = bad at
 
 -- "two digits for that unit and each shorter one, any of the last left out. Left-out shorter units are 00"
 unfoldable pub fill : List Range → List ℕ → Said
 fill [] l = cond (same l []) (good []) (bad 0)
-fill (r ∷ rs) [] = before 0 (fill rs [])
+fill (r ∷ rs) [] = byteBefore 0 (fill rs [])
 fill (r ∷ rs) (b ∷ l) = valueBefore (pairAt (r .low) (r .high) (b ∷ l) 0) (fill rs (drop 1 l))
 
 -- "with no digits the first unit matches all too"

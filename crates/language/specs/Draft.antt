@@ -5,18 +5,18 @@ use mathlib.Core.Bool.{Bool, true, false, cond}
 use mathlib.Core.List.{List, [], _∷_, _++_}
 use lib.ListN.{length}
 use lib.Dec.{ltb, leb}
-use Rattle.runs.specs.Cap.{limit}
-use Rattle.language.specs.declared.Fault.{Fault}
-use Rattle.language.specs.declared.Fault.the-variants.{TextTooLong, LineTooLong, TooManyLines, TooMuchData, TooManyOmits, TooManyLoops, EndWithoutLoop, LoopLeftOpen, TooManyProcesses, StretchTooLong}
+use Rattle.figures.specs.Cap.{limit}
+use Rattle.language.specs.declared.TextFault.{TextFault}
+use Rattle.language.specs.declared.TextFault.the-variants.{TextTooLong, LineTooLong, TooManyLines, TooMuchData, TooManyOmits, TooManyLoops, EndWithoutLoop, LoopLeftOpen, TooManyProcesses, StretchTooLong}
 use Rattle.language.specs.Limits.{textLimit, lineLimit, linesLimit, dataLimit, omitLimit, loopLimit, processLimit}
 use Rattle.language.specs.Lines.{linesOf}
-use Rattle.language.specs.Script.{Statement, Meaning, comment, blank, process, setEx, says, setEncode, setStopbits, setOmit, setLfext, fault, byte, Settings, default, Item, does, next, Script, processes, Shape, opens, closes, stays, shape, dataOf}
+use Rattle.language.specs.Script.{Statement, Meaning, comment, blank, process, setEx, says, setEncode, setStopbits, setOmit, setLfext, fault, byte, Settings, settings, default, Item, does, next, Script, processes, Shape, opens, closes, stays, shape, dataOf}
 use Rattle.language.specs.Meaning.{meaning}
 
 -- what a text comes to: a script, or a fault with the line that it names
 pub data Result : Type 0 where
   accepted : Script → Result
-  refused : Fault → ℕ → Result
+  refused : TextFault → ℕ → Result
 
 -- what the lines so far have used up
 pub record Draft : Type 0 where
@@ -28,42 +28,37 @@ pub record Draft : Type 0 where
   pub settings : Settings
   pub body : List Item
 
+-- a draft by its parts
+abbrev pub draft : ℕ → ℕ → List ℕ → ℕ → Bool → Settings → List Item → Draft
+draft counted used loops count begun settings body =
+    record { counted = counted; used = used; loops = loops; count = count; begun = begun; settings = settings; body = body }
+
 -- before the first line: one process, nothing used
 unfoldable pub start : Draft
-start = record { counted = 0; used = 0; loops = []; count = 1; begun = false; settings = default; body = [] }
+start = draft 0 0 [] 1 false default []
 
 -- a line is taken, or "the first faulty line" ends it all
-pub data Taken : Type 0 where
-  going : Draft → Taken
-  stop : Fault → ℕ → Taken
+pub data LineTaken : Type 0 where
+  going : Draft → LineTaken
+  stop : TextFault → ℕ → LineTaken
 
 -- one more line counted
 unfoldable pub countLine : Draft → Draft
-countLine st =
-    record { counted = st .counted + 1; used = st .used; loops = st .loops; count = st .count; begun = st .begun; settings = st .settings; body = st .body }
+countLine st = draft (st .counted + 1) (st .used) (st .loops) (st .count) (st .begun) (st .settings) (st .body)
 
--- the state with other settings, and with one more item, `loops` being the loops open after it
+-- other settings
 unfoldable pub withSettings : Draft → Settings → Draft
-withSettings st s =
-    record { counted = st .counted; used = st .used; loops = st .loops; count = st .count; begun = st .begun; settings = s; body = st .body }
+withSettings st s = draft (st .counted) (st .used) (st .loops) (st .count) (st .begun) s (st .body)
 
--- one more statement, its data used
+-- one more statement, its data used, `loops` being the loops open after it
 unfoldable pub withItem : Draft → List ℕ → Statement → Draft
 withItem st loops s =
-    record {
-      counted = st .counted;
-      used = st .used + length (dataOf s);
-      loops = loops;
-      count = st .count;
-      begun = true;
-      settings = st .settings;
-      body = st .body ++ does s ∷ [];
-    }
+    draft (st .counted) (st .used + length (dataOf s)) loops (st .count) true (st .settings) (st .body ++ does s ∷ [])
 
 -- the loops open after a statement, or the number of its fault: "ninth open loop" 6, "END with none open" 7
 pub data Nested : Type 0 where
   now : List ℕ → Nested
-  broken : Fault → Nested
+  broken : TextFault → Nested
 
 -- "8 loops deep"; LOOP opens one with its line, END closes the innermost
 unfoldable pub nest : ℕ → Shape → List ℕ → Nested
@@ -73,68 +68,58 @@ nest row closes [] = broken EndWithoutLoop
 nest row closes (l ∷ ls) = now ls
 
 -- the statement is taken unless its loop is at fault
-unfoldable pub takeNested : ℕ → Draft → Statement → Nested → Taken
+unfoldable pub takeNested : ℕ → Draft → Statement → Nested → LineTaken
 takeNested row st s (now ls) = going (withItem st ls s)
 takeNested row st s (broken n) = stop n row
 
 -- "data over 1,024" 5
-unfoldable pub takeStatement : ℕ → Draft → Statement → Taken
+unfoldable pub takeStatement : ℕ → Draft → Statement → LineTaken
 takeStatement row st s =
     cond (leb (st .used + length (dataOf s)) dataLimit) (takeNested row st s (nest row (shape s) (st .loops))) (stop TooMuchData row)
 
--- the state after a PROCESS line that begins the next process, and after one that begins the first
+-- after a PROCESS line that begins the next process
 unfoldable pub withNext : Draft → Draft
-withNext st =
-    record {
-      counted = st .counted;
-      used = st .used;
-      loops = [];
-      count = st .count + 1;
-      begun = true;
-      settings = st .settings;
-      body = st .body ++ next ∷ [];
-    }
+withNext st = draft (st .counted) (st .used) [] (st .count + 1) true (st .settings) (st .body ++ next ∷ [])
 
 -- "begins the first process": nothing but that it has begun
 unfoldable pub withFirst : Draft → Draft
-withFirst st =
-    record { counted = st .counted; used = st .used; loops = []; count = st .count; begun = true; settings = st .settings; body = st .body }
+withFirst st = draft (st .counted) (st .used) [] (st .count) true (st .settings) (st .body)
 
 -- "the script's first such line, if no statement comes before it, begins the first process, and every other one the next"
-unfoldable pub beginning : ℕ → Draft → Taken
+unfoldable pub beginning : ℕ → Draft → LineTaken
 beginning row st = cond (st .begun) (cond (ltb (st .count) processLimit) (going (withNext st)) (stop TooManyProcesses row)) (going (withFirst st))
 
 -- "loop open at a PROCESS line or the end of text: line of the innermost" 8, "ninth process" 9
-unfoldable pub takeProcess : ℕ → Draft → List ℕ → Taken
+unfoldable pub takeProcess : ℕ → Draft → List ℕ → LineTaken
 takeProcess row st [] = beginning row st
 takeProcess row st (l ∷ ls) = stop LoopLeftOpen l
 
 -- "OMIT over 10" 10; "several lines add up"
-unfoldable pub takeOmit : ℕ → Draft → Settings → List ℕ → Taken
+unfoldable pub takeOmit : ℕ → Draft → Settings → List ℕ → LineTaken
 takeOmit row st s bs =
     cond (leb (length (s .omit ++ bs)) omitLimit)
-    (going (withSettings st (record { encode = s .encode; twoStopbits = s .twoStopbits; omit = s .omit ++ bs; lfext = s .lfext })))
+    (going (withSettings st (settings (s .encode) (s .twoStopbits) (s .omit ++ bs) (s .lfext))))
     (stop TooManyOmits row)
 
 -- a line that counts, by its meaning
-unfoldable pub take : ℕ → Draft → Meaning → Taken
-take row st comment = going st
-take row st blank = going st
-take row st process = takeProcess row st (st .loops)
-take row st setEx = going st
-take row st (says s) = takeStatement row st s
-take row st (setEncode b) =
-    going (withSettings st (record { encode = byte b; twoStopbits = st .settings .twoStopbits; omit = st .settings .omit; lfext = st .settings .lfext }))
-take row st (setStopbits two) =
-    going (withSettings st (record { encode = st .settings .encode; twoStopbits = two; omit = st .settings .omit; lfext = st .settings .lfext }))
-take row st (setOmit bs) = takeOmit row st (st .settings) bs
-take row st (setLfext e) =
-    going (withSettings st (record { encode = st .settings .encode; twoStopbits = st .settings .twoStopbits; omit = st .settings .omit; lfext = e }))
-take row st (fault n) = stop n row
+unfoldable pub takeMeaning : ℕ → Draft → Meaning → LineTaken
+takeMeaning row st comment = going st
+takeMeaning row st blank = going st
+takeMeaning row st process = takeProcess row st (st .loops)
+takeMeaning row st setEx = going st
+takeMeaning row st (says s) = takeStatement row st s
+takeMeaning row st (setEncode b) =
+    going (withSettings st (settings (byte b) (st .settings .twoStopbits) (st .settings .omit) (st .settings .lfext)))
+takeMeaning row st (setStopbits two) =
+    going (withSettings st (settings (st .settings .encode) two (st .settings .omit) (st .settings .lfext)))
+takeMeaning row st (setOmit bs) = takeOmit row st (st .settings) bs
+takeMeaning row st (setLfext e) =
+    going (withSettings st (settings (st .settings .encode) (st .settings .twoStopbits) (st .settings .omit) e))
+takeMeaning row st (fault n) = stop n row
 
 -- "513th counted line" 2
-unfoldable pub takeCounted : ℕ → Draft → Meaning → Taken
-takeCounted row st m = cond (ltb (st .counted) linesLimit) (take row (countLine st) m) (stop TooManyLines row)
+unfoldable pub takeCounted : ℕ → Draft → Meaning → LineTaken
+takeCounted row st m = cond (ltb (st .counted) linesLimit) (takeMeaning row (countLine st) m) (stop TooManyLines row)
 
 -- "At most 512 lines besides comments"
 unfoldable pub isComment : Meaning → Bool
@@ -150,15 +135,15 @@ isComment (setLfext e) = false
 isComment (fault n) = false
 
 -- "line over 127" 1
-unfoldable pub takeLine : ℕ → Draft → List ℕ → Taken
+unfoldable pub takeLine : ℕ → Draft → List ℕ → LineTaken
 takeLine row st l =
     cond (ltb lineLimit (length l)) (stop LineTooLong row)
     (cond (isComment (meaning l)) (going st) (takeCounted row st (meaning l)))
 
 -- a fault ends the fold
-unfoldable pub after : Taken → (Draft → Result) → Result
-after (going st) go = go st
-after (stop n row) go = refused n row
+unfoldable pub goOn : LineTaken → (Draft → Result) → Result
+goOn (going st) go = go st
+goOn (stop n row) go = refused n row
 
 -- "stretch over 4,096: lowest process number, from 1, in place of a line" 11: the stretch of a process is given
 module _ (stretch : List Statement → ℕ) where
@@ -174,7 +159,7 @@ module _ (stretch : List Statement → ℕ) where
   -- the lines one after the other, `row` being the number of the next
   unfoldable pub fold : List (List ℕ) → ℕ → Draft → Result
   fold [] row st = finished (record { settings = st .settings; body = st .body }) (st .loops)
-  fold (l ∷ ls) row st = after (takeLine row st l) (λ st₁. fold ls (row + 1) st₁)
+  fold (l ∷ ls) row st = goOn (takeLine row st l) (λ st₁. fold ls (row + 1) st₁)
 
   -- "text over 65,536 bytes (line 0)" 12
   unfoldable pub resultOf : List ℕ → Result

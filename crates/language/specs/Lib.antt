@@ -10,5 +10,8 @@ pub mod Draft
 pub mod Listing
 pub mod Right
 pub mod Cell
+pub mod View
 pub mod Table
 pub mod Answer
+-- as the code goes through it: nothing in there has to be believed
+pub mod inside

@@ -10,7 +10,7 @@ dropCr [] = []
 dropCr (b ∷ []) = cond (eqb b 13) [] (b ∷ [])
 dropCr (b ∷ c ∷ l) = b ∷ dropCr (c ∷ l)
 
--- a byte that ends no line stands in front of the first of the lines behind it, or begins one
+-- a byte that ends no line stands in front of the first of the lines after it, or begins one
 unfoldable pub inFront : ℕ → List (List ℕ) → List (List ℕ)
 inFront b [] = (b ∷ []) ∷ []
 inFront b (l ∷ ls) = (b ∷ l) ∷ ls

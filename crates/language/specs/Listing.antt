@@ -21,7 +21,7 @@ isPlain b = leb 32 b && leb b 126
 unfoldable pub inHex : ℕ → List ℕ → Bool
 inHex room bs = not (all isPlain bs) && leb (length bs * 2) room
 
--- "Data in hex", behind `:`, "else text", behind `/`
+-- "Data in hex", after `:`, "else text", after `/`
 unfoldable pub dataText : ℕ → List ℕ → List ℕ
 dataText room bs = cond (inHex room bs) (58 ∷ hexText bs) (47 ∷ bs)
 
@@ -81,9 +81,9 @@ bodyLines (does s ∷ is) = itemLines (does s ∷ is)
 bodyLines (next ∷ is) = ascii "#PROCESS" ∷ itemLines (next ∷ is)
 
 -- "First, in this order, if not default"
-abbrev pub when : Bool → List ℕ → List (List ℕ)
-when true l = l ∷ []
-when false l = []
+abbrev pub lineIf : Bool → List ℕ → List (List ℕ)
+lineIf true l = l ∷ []
+lineIf false l = []
 
 -- "`#f:ENCODE :hh` (capital digits)"
 unfoldable pub encodeLines : Encode → List (List ℕ)
@@ -94,19 +94,19 @@ encodeLines (byte b) = (ascii "#f:ENCODE :" ++ hexText (b ∷ [])) ∷ []
 unfoldable pub settingLines : Settings → List (List ℕ)
 settingLines s =
     encodeLines (s .encode)
-    ++ (when (s .twoStopbits) (ascii "#f:STOPBITS 2")
-    ++ (when (not (same (s .omit) [])) (ascii "#f:OMIT :" ++ hexText (s .omit))
-    ++ when (not (same (s .lfext) (ascii "LOG"))) (ascii "#f:LFEXT " ++ (s .lfext))))
+    ++ (lineIf (s .twoStopbits) (ascii "#f:STOPBITS 2")
+    ++ (lineIf (not (same (s .omit) [])) (ascii "#f:OMIT :" ++ hexText (s .omit))
+    ++ lineIf (not (same (s .lfext) (ascii "LOG"))) (ascii "#f:LFEXT " ++ (s .lfext))))
 
 -- the f: lines "First", then the body
 unfoldable pub listedLines : Script → List (List ℕ)
 listedLines s = settingLines (s .settings) ++ bodyLines (s .body)
 
 -- "CR LF after each line"
-unfoldable pub joined : List (List ℕ) → List ℕ
-joined [] = []
-joined (l ∷ ls) = l ++ 13 ∷ 10 ∷ joined ls
+unfoldable pub withLineEnds : List (List ℕ) → List ℕ
+withLineEnds [] = []
+withLineEnds (l ∷ ls) = l ++ 13 ∷ 10 ∷ withLineEnds ls
 
 -- the listing of a script
 unfoldable pub listing : Script → List ℕ
-listing s = joined (listedLines s)
+listing s = withLineEnds (listedLines s)

@@ -12,9 +12,10 @@ use Rattle.numbers.specs.Number.{numberAt}
 use Rattle.hex.specs.Hex.{Said, hexAt, hexByteAt, good, bad}
 use Rattle.numbers.specs.declared.Number.{Number}
 use Rattle.numbers.specs.declared.Number.the-variants.{Value, Bad}
-use Rattle.language.specs.declared.Fault.the-variants.{NoSuchName, BadRest}
+use Rattle.language.specs.declared.TextFault.the-variants.{NoSuchName, BadRest}
 use Rattle.language.specs.Clock.{clockOf}
 use Rattle.language.specs.Script.{Statement, send, loop, end, waitTime, waitData, waitByte, waitClock, waitSignal, rts, log, fchange, pause, resume, nop, Meaning, comment, blank, process, setEx, says, setEncode, setStopbits, setOmit, setLfext, fault}
+use Rattle.language.specs.Limits.{letterLimit}
 
 -- "name known, the rest missing, bad or surplus" 4
 abbrev pub checked : Bool → Meaning → Meaning
@@ -24,7 +25,7 @@ checked ok m = cond ok m (fault BadRest)
 unfoldable pub bare : Meaning → List ℕ → Meaning
 bare m rest = checked (all isBlank rest) m
 
--- a number that was read, with nothing behind it
+-- a number that was read, with nothing after it
 unfoldable pub numberSays : (ℕ → Statement) → List ℕ → Number → Meaning
 numberSays s a (Value v next) = checked (eqb next (length a)) (says (s v))
 numberSays s a (Bad at) = fault BadRest
@@ -137,7 +138,7 @@ raise (b ∷ l) = raised b ∷ raise l
 
 -- "1 to 3 letters or digits"
 unfoldable pub extension : List ℕ → Bool
-extension l = ltb 0 (length l) && leb (length l) 3 && all isCapital l
+extension l = ltb 0 (length l) && leb (length l) letterLimit && all isCapital l
 
 -- "`#f:LFEXT` 1 to 3 letters or digits, made capital"
 unfoldable pub lfextOf : List ℕ → Meaning
@@ -149,7 +150,7 @@ exIn a = checked (same a (ascii "IN")) setEx
 
 -- ---- names
 
--- a name, and what reads the rest behind it
+-- a name, and what reads the rest after it
 pub record Entry : Type 0 where
   pub word : List ℕ
   pub reader : List ℕ → Meaning
@@ -170,7 +171,7 @@ lookup (e ∷ es) w rest =
 unfoldable pub signal : ℕ → Bool → List ℕ → Meaning
 signal n on rest = bare (says (waitSignal n on)) rest
 
--- the second words behind `#WAIT`
+-- the second words after `#WAIT`
 unfoldable pub waits : List Entry
 waits =
     entry (ascii "TIME") (λ rest. timeOf (argument rest))

@@ -4,11 +4,11 @@ use mathlib.Core.Bool.{Bool, true, false, _&&_, _||_, not}
 use mathlib.Core.List.{List, [], _∷_}
 use lib.ListN.{length}
 use lib.Dec.{ltb, leb, eqb}
-use Rattle.runs.specs.Cap.{limit}
+use Rattle.figures.specs.Cap.{limit}
 use Rattle.reader.specs.Bytes.{all, same}
-use Rattle.language.specs.Limits.{linesLimit, dataLimit, omitLimit, loopLimit, processLimit, sendRoom, waitRoom, logRoom, omitRoom}
+use Rattle.language.specs.Limits.{linesLimit, dataLimit, omitLimit, loopLimit, processLimit, sendRoom, waitRoom, logRoom}
 use Rattle.language.specs.Clock.{Range, within, secondOn, minuteOn, hourOn, dayOn}
-use Rattle.language.specs.Script.{Statement, send, loop, end, waitTime, waitData, waitByte, waitClock, waitSignal, rts, log, fchange, pause, resume, nop, Meaning, comment, blank, process, setEx, says, setEncode, setStopbits, setOmit, setLfext, fault, Encode, unset, byte, Settings, Item, does, next, Script, processes, Shape, opens, closes, stays, shape, dataOf}
+use Rattle.language.specs.Script.{Statement, send, loop, end, waitTime, waitData, waitByte, waitClock, waitSignal, rts, log, fchange, pause, resume, nop, Encode, unset, byte, Settings, Item, does, next, Script, processes, Shape, opens, closes, stays, shape, dataOf}
 use Rattle.language.specs.Meaning.{signs, extension}
 use Rattle.language.specs.Listing.{listedLines}
 
@@ -63,19 +63,6 @@ right fchange = true
 right pause = true
 right resume = true
 right nop = true
-
--- a line's meaning
-unfoldable pub meaningRight : Meaning → Bool
-meaningRight comment = true
-meaningRight blank = true
-meaningRight process = true
-meaningRight setEx = true
-meaningRight (says s) = right s
-meaningRight (setEncode b) = isByte b
-meaningRight (setStopbits two) = true
-meaningRight (setOmit bs) = dataRight omitRoom bs
-meaningRight (setLfext e) = extension e
-meaningRight (fault n) = true
 
 -- ---- scripts
 

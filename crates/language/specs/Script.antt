@@ -3,7 +3,7 @@ use Prim.Native.Nat.{ℕ}
 use mathlib.Core.Bool.{Bool, false}
 use mathlib.Core.List.{List, [], _∷_}
 use Rattle.reader.specs.Ascii.{ascii}
-use Rattle.language.specs.declared.Fault.{Fault}
+use Rattle.language.specs.declared.TextFault.{TextFault}
 
 -- the fourteen statements of the section "Lines"
 pub data Statement : Type 0 where
@@ -65,7 +65,7 @@ pub data Meaning : Type 0 where
   setStopbits : Bool → Meaning  -- two?
   setOmit : List ℕ → Meaning
   setLfext : List ℕ → Meaning
-  fault : Fault → Meaning
+  fault : TextFault → Meaning
 
 -- a byte that may not be set
 pub data Encode : Type 0 where
@@ -79,9 +79,13 @@ pub record Settings : Type 0 where
   pub omit : List ℕ
   pub lfext : List ℕ
 
+-- settings by their parts
+abbrev pub settings : Encode → Bool → List ℕ → List ℕ → Settings
+settings encode two omit lfext = record { encode = encode; twoStopbits = two; omit = omit; lfext = lfext }
+
 -- with no f: lines: no ENCODE byte, one stop bit, nothing omitted, LOG
 unfoldable pub default : Settings
-default = record { encode = unset; twoStopbits = false; omit = []; lfext = ascii "LOG" }
+default = settings unset false [] (ascii "LOG")
 
 -- the body of a script is one list: an item for each written statement line, and one where each further process begins
 pub data Item : Type 0 where

@@ -1,6 +1,6 @@
 -- Document 01, "Longest stretch": what counts of each statement. The written-out form and its runs are the crate `figures`'s.
 use Prim.Native.Nat.{ℕ, max}
-use mathlib.Core.Bool.{Bool, cond}
+use mathlib.Core.Bool.{cond}
 use mathlib.Core.List.{List, [], _∷_, map}
 use lib.Dec.{ltb}
 use Rattle.figures.specs.Flat.{Mark, plain, sureRest, opens, closes, fragment}
@@ -26,7 +26,7 @@ markOf nop = plain
 
 -- the stretch of a process, 4,097 standing for all over 4,096
 unfoldable pub stretchOf : List Statement → ℕ
-stretchOf p = figures.stretchOf (fragment (map markOf p))
+stretchOf p = figures.fragmentStretch (fragment (map markOf p))
 
 -- "The compiler reports the largest stretch of any process"
 unfoldable pub largestOf : List (List Statement) → ℕ

@@ -10,13 +10,17 @@ use Rattle.language.specs.declared.Cell.{Cell}
 use Rattle.language.specs.declared.Cell.the-variants.{Nothing, Send, Loop, End, WaitTime, WaitData, WaitByte, WaitClock, WaitSignal, Rts, Log, Fchange, Pause, Resume, Nop, Unknown}
 use Rattle.language.specs.declared.Heads.{Heads}
 use Rattle.language.specs.declared.Table.{Table}
-use Rattle.language.specs.Limits.{linesLimit, dataLimit, omitLimit, processLimit}
+use Rattle.language.specs.Limits.{cellPlaces, poolPlaces, processPlaces, omitPlaces, letterPlaces}
 use Rattle.language.specs.Script.{Statement, send, loop, end, waitTime, waitData, waitByte, waitClock, waitSignal, rts, log, fchange, pause, resume, nop, Encode, unset, byte, Settings, Item, does, next, Script, dataOf}
 use Rattle.language.specs.Cell.{span, level, coded, decoded, clockFrom, fixedUnits}
 
--- zeros behind a list, up to n
+-- zeros after a list, up to n
 abbrev pub padded : ℕ → List ℕ → List ℕ
 padded n l = l ++ replicate (n - length l) 0
+
+-- a table by its parts
+abbrev pub table : List ℕ → List ℕ → Heads → Table
+table cells pool heads = record { cells = cells; pool = pool; heads = heads }
 
 -- ---- a script laid out
 
@@ -49,7 +53,7 @@ poolOf [] = []
 poolOf (does s ∷ is) = dataOf s ++ poolOf is
 poolOf (next ∷ is) = poolOf is
 
--- the place behind the last cell of each process, `i` cells standing before them
+-- the place after the last cell of each process, `i` cells standing before them
 unfoldable pub endsFrom : ℕ → List Item → List ℕ
 endsFrom i [] = i ∷ []
 endsFrom i (does s ∷ is) = endsFrom (i + 1) is
@@ -70,22 +74,22 @@ unfoldable pub headsOf : Script → Heads
 headsOf s =
     record {
       processes = length (endsFrom 0 (s .body));
-      ends = padded processLimit (endsFrom 0 (s .body));
+      ends = padded processPlaces (endsFrom 0 (s .body));
       used = length (poolOf (s .body));
       encodes = encodes (s .settings .encode);
       encode = encodeByteOf (s .settings .encode);
       «two_stop_bits» = s .settings .twoStopbits;
       omits = length (s .settings .omit);
-      omit = padded omitLimit (s .settings .omit);
-      extension = padded 3 (s .settings .lfext);
+      omit = padded omitPlaces (s .settings .omit);
+      extension = padded letterPlaces (s .settings .lfext);
     }
 
 -- the table of a script: "a table's unused cells are zero"
 unfoldable pub laidOut : Script → Table
 laidOut s =
     record {
-      cells = padded linesLimit (wordsFrom 0 (s .body));
-      pool = padded dataLimit (poolOf (s .body));
+      cells = padded cellPlaces (wordsFrom 0 (s .body));
+      pool = padded poolPlaces (poolOf (s .body));
       heads = headsOf s;
     }
 
@@ -149,21 +153,21 @@ scriptOf t =
     }
 
 -- "a table handed back by value with a refusal is all zeros"
-unfoldable pub zeros : Table
-zeros =
+unfoldable pub zeroTable : Table
+zeroTable =
     record {
-      cells = replicate linesLimit 0;
-      pool = replicate dataLimit 0;
+      cells = replicate cellPlaces 0;
+      pool = replicate poolPlaces 0;
       heads =
           record {
             processes = 0;
-            ends = replicate processLimit 0;
+            ends = replicate processPlaces 0;
             used = 0;
             encodes = false;
             encode = 0;
             «two_stop_bits» = false;
             omits = 0;
-            omit = replicate omitLimit 0;
-            extension = replicate 3 0;
+            omit = replicate omitPlaces 0;
+            extension = replicate letterPlaces 0;
           };
     }

@@ -1,13 +1,17 @@
 // Reads a script on standard input and prints its listing, or `refused N at L`.
 use compiler::compile;
-use faults::number;
+use compiler::faults::number;
 use language::Answer;
-use language::Fault;
+use language::LISTING;
+use language::TEXT;
 use language::Table;
+use language::TextFault;
 use libc::STDOUT_FILENO;
-use lister::LISTING;
 use lister::Listed;
 use lister::list;
+
+// One byte more than a text may have is enough to know that it is too long.
+const ROOM: usize = TEXT + 1;
 
 fn say(text: &[u8]) {
     io::write_all(STDOUT_FILENO, text);
@@ -21,7 +25,7 @@ fn say_word(n: u32) {
     io::print_decimal(STDOUT_FILENO, n as u64);
 }
 
-fn say_refusal(fault: Fault, line: u32) {
+fn say_refusal(fault: TextFault, line: u32) {
     say(b"refused ");
     say_byte(number(fault));
     say(b" at ");
@@ -48,9 +52,8 @@ fn say_listing(table: Table) {
     }
 }
 
-// One byte more than a text may have is enough to know that it is too long.
 fn main() {
-    let mut text = [0u8; 65537];
+    let mut text = [0u8; ROOM];
     let n = io::read_full(0, &mut text);
     let compiled = compile(&text[..n]);
     let answer = compiled.answer;

@@ -1,2 +1,12 @@
 pub mod Listing
 pub mod Reported
+pub mod Printing
+pub mod Scratch
+pub mod Texts
+pub mod Clocking
+pub mod Stating
+pub mod Lining
+pub mod Bodies
+pub mod Setting
+pub mod Fitting
+pub mod Plain

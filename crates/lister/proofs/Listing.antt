@@ -8,23 +8,23 @@ use lib.ListN.{length}
 use borrow.Author.Tests.{le-leb, lt-leb}
 use Rattle.language.specs.declared.Table.{Table}
 use Rattle.accepted.specs.Accepted.{tableRight}
-use Rattle.printer.specs.declared.Length.{Length}
-use Rattle.printer.specs.declared.Length.the-variants as length
-use Rattle.printer.specs.Printed.{longest}
-use Rattle.printer.specs.Print.{listingOf, printAnswer, printInto}
-use Rattle.printer.proofs.Fitting.{listing-few}
-use Rattle.lister.specs.declared.Wrong.the-variants.{BadTable, NoRoom}
+use Rattle.lister.specs.declared.printer.ListingLength.{ListingLength}
+use Rattle.lister.specs.declared.printer.ListingLength.the-variants as length
+use Rattle.lister.specs.inside.Print.{printAnswer, printInto}
+use Rattle.lister.specs.Listed.{listingOf, listAnswer, listInto}
+use Rattle.lister.proofs.Fitting.{listing-few}
+use Rattle.lister.specs.declared.ListRefusal.the-variants.{BadTable, NoRoom}
 use Rattle.lister.specs.declared.Listed.the-variants.{Wrote, Refused}
-use Rattle.lister.specs.Listed.{listAnswer, listInto}
+use Rattle.language.specs.Limits.{listingLimit}
 
 -- a buffer of LISTING bytes is large enough
-pub room-always : (t : Table) → tableRight t ≡ true → (d : List ℕ) → longest ≤ length d → listAnswer t d ≡ Wrote (length (listingOf t))
+pub room-always : (t : Table) → tableRight t ≡ true → (d : List ℕ) → listingLimit ≤ length d → listAnswer t d ≡ Wrote (length (listingOf t))
 unfolding listAnswer
 room-always t right d h =
     let l : length (listingOf t) ≤ length d = omega (arith, listing-few t right) in
     rw (right, le-leb (length (listingOf t)) (length d) l)
 
-module _ (t : Table) (d : List ℕ) {x : Length} (told : x ≡ printAnswer t) where
+module _ (t : Table) (d : List ℕ) {x : ListingLength} (told : x ≡ printAnswer t) where
   -- what the printer's answer says of the table
   not-right : x ≡ length.BadTable → tableRight t ≡ false
   unfolding printAnswer

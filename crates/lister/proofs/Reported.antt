@@ -10,11 +10,10 @@ use lib.Seq.{sets, sets-eq, take-at, drop-at}
 use borrow.Author.Tests.{le-leb}
 use Rattle.language.specs.declared.Table.{Table}
 use Rattle.accepted.specs.Accepted.{tableRight}
-use Rattle.printer.specs.Print.{listingOf}
-use Rattle.lister.specs.declared.Wrong.{Wrong}
-use Rattle.lister.specs.declared.Wrong.the-variants.{BadTable, NoRoom}
+use Rattle.lister.specs.Listed.{listingOf, listAnswer, listInto}
+use Rattle.lister.specs.declared.ListRefusal.{ListRefusal}
+use Rattle.lister.specs.declared.ListRefusal.the-variants.{BadTable, NoRoom}
 use Rattle.lister.specs.declared.Listed.the-variants.{Wrote, Refused}
-use Rattle.lister.specs.Listed.{listAnswer, listInto}
 
 module _ (t : Table) (d : List ℕ) (right : tableRight t ≡ true) (room : length (listingOf t) ≤ length d) where
   in-front : listInto t d ≡ listingOf t ++ drop (length (listingOf t)) d
@@ -30,7 +29,7 @@ module _ (t : Table) (d : List ℕ) (right : tableRight t ≡ true) (room : leng
   pub behind-kept : drop (length (listingOf t)) (listInto t d) ≡ drop (length (listingOf t)) d
   behind-kept = rw in-front (drop-at (listingOf t) _ (length (listingOf t)) refl)
 
-pub refusal-keeps : (t : Table) (d : List ℕ) (w : Wrong) → listAnswer t d ≡ Refused w → listInto t d ≡ d
+pub refusal-keeps : (t : Table) (d : List ℕ) (w : ListRefusal) → listAnswer t d ≡ Refused w → listInto t d ≡ d
 unfolding listAnswer listInto
 refusal-keeps t d w = go (tableRight t) (leb (length (listingOf t)) (length d))
   where

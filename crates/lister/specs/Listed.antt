@@ -8,11 +8,16 @@ use lib.Seq.{sets}
 use lib.Dec.{leb}
 use Rattle.language.specs.declared.Table.{Table}
 use Rattle.accepted.specs.Accepted.{tableRight}
-use Rattle.printer.specs.Print.{listingOf}
-use Rattle.lister.specs.declared.Wrong.{Wrong}
-use Rattle.lister.specs.declared.Wrong.the-variants.{BadTable, NoRoom}
+use Rattle.lister.specs.declared.ListRefusal.{ListRefusal}
+use Rattle.lister.specs.declared.ListRefusal.the-variants.{BadTable, NoRoom}
 use Rattle.lister.specs.declared.Listed.{Listed}
 use Rattle.lister.specs.declared.Listed.the-variants.{Wrote, Refused}
+use Rattle.language.specs.Listing.{listing}
+use Rattle.language.specs.Table.{scriptOf}
+
+-- the listing of a table
+abbrev pub listingOf : Table → List ℕ
+listingOf t = listing (scriptOf t)
 
 -- the table is tested first, then the room
 unfoldable pub listAnswer : Table → List ℕ → Listed
@@ -26,6 +31,6 @@ unfoldable pub listInto : Table → List ℕ → List ℕ
 listInto t d = cond (tableRight t) (cond (leb (length (listingOf t)) (length d)) (sets d 0 (listingOf t)) d) d
 
 -- the numbers of the refusals
-unfoldable pub numberOf : Wrong → ℕ
-numberOf BadTable = 25
-numberOf NoRoom = 26
+unfoldable pub listRefusalNumber : ListRefusal → ℕ
+listRefusalNumber BadTable = 25
+listRefusalNumber NoRoom = 26

@@ -7,7 +7,7 @@ use native.Mathlib.Omega.{arith}
 use lib.Dec.{ltb, leb}
 use lib.ListN.{length}
 use Rattle.reader.specs.Bytes.{digitOf}
-use Rattle.numbers.specs.Number.{ended, numberGo, secondOf, pairOf}
+use Rattle.numbers.specs.Number.{digitsEnded, numberGo, secondOf, pairOf}
 use Rattle.numbers.specs.declared.Number.the-variants.{Value, Bad}
 
 -- a choice keeps a refusal that both answers keep
@@ -19,8 +19,8 @@ pub same : {A : Type 0} {r x : A} → x ≡ r → x ≡ r
 same e = e
 
 -- where the digits end a refusal names that very place
-ended-bad : (n v at k : ℕ) → ended n v at ≡ Bad k → at ≡ k
-unfolding ended
+ended-bad : (n v at k : ℕ) → digitsEnded n v at ≡ Bad k → at ≡ k
+unfolding digitsEnded
 ended-bad n v at k e = go (ltb 0 n) e
   where
     go : (t : Bool) → cond t (Value v at) (Bad at) ≡ Bad k → at ≡ k

@@ -7,7 +7,8 @@ use native.Mathlib.Nat.{add-zero, add-assoc}
 use lib.Dec.{ltb, leb}
 use lib.ListN.{drop}
 use Rattle.reader.specs.Bytes.{digitOf}
-use Rattle.numbers.specs.Number.{ended, numberGo, numberAt, secondOf, pairOf, pairAt, moved}
+use Rattle.numbers.specs.Number.{digitsEnded, numberGo, numberAt, secondOf, pairOf, pairAt}
+use Rattle.numbers.specs.inside.Moved.{movedOn}
 use Rattle.numbers.specs.declared.Number.the-variants.{Value}
 
 -- a choice of two answers moves with both
@@ -19,36 +20,36 @@ both-moved m false p q = q
 pub next : (k at : ℕ) → k + at + 1 ≡ k + (at + 1)
 next k at = add-assoc k at 1
 
-ended-moved : (n v k at : ℕ) → ended n v (k + at) ≡ moved k (ended n v at)
-unfolding ended moved
-ended-moved n v k at = both-moved (moved k) (ltb 0 n) refl refl
+ended-moved : (n v k at : ℕ) → digitsEnded n v (k + at) ≡ movedOn k (digitsEnded n v at)
+unfolding digitsEnded movedOn
+ended-moved n v k at = both-moved (movedOn k) (ltb 0 n) refl refl
 
-pub number-moved : (most limit : ℕ) (l : List ℕ) (n v k at : ℕ) → numberGo most limit l n v (k + at) ≡ moved k (numberGo most limit l n v at)
-unfolding numberGo moved
+pub number-moved : (most limit : ℕ) (l : List ℕ) (n v k at : ℕ) → numberGo most limit l n v (k + at) ≡ movedOn k (numberGo most limit l n v at)
+unfolding numberGo movedOn
 number-moved most limit [] n v k at = ended-moved n v k at
 number-moved most limit (b ∷ rest) n v k at =
     let d : ℕ = digitOf b in
-    both-moved (moved k) (ltb d 10)
-    (both-moved (moved k) (ltb n most)
-    (both-moved (moved k) (leb (v * 10 + d) limit)
+    both-moved (movedOn k) (ltb d 10)
+    (both-moved (movedOn k) (ltb n most)
+    (both-moved (movedOn k) (leb (v * 10 + d) limit)
     (ap (numberGo most limit rest (n + 1) (v * 10 + d)) (next k at) ∙ number-moved most limit rest (n + 1) (v * 10 + d) k (at + 1))
     refl)
     refl)
     (ended-moved n v k at)
 
-second-moved : (low high d : ℕ) (l : List ℕ) (k at : ℕ) → secondOf low high d l (k + at) ≡ moved k (secondOf low high d l at)
-unfolding secondOf moved
+second-moved : (low high d : ℕ) (l : List ℕ) (k at : ℕ) → secondOf low high d l (k + at) ≡ movedOn k (secondOf low high d l at)
+unfolding secondOf movedOn
 second-moved low high d [] k at = refl
 second-moved low high d (b ∷ rest) k at =
     let v : ℕ = d * 10 + digitOf b in
-    both-moved (moved k) (ltb (digitOf b) 10 && (leb low v && leb v high)) (ap (Value v) (next k at)) refl
+    both-moved (movedOn k) (ltb (digitOf b) 10 && (leb low v && leb v high)) (ap (Value v) (next k at)) refl
 
-pub pair-moved : (low high : ℕ) (l : List ℕ) (k at : ℕ) → pairOf low high l (k + at) ≡ moved k (pairOf low high l at)
-unfolding pairOf moved
+pub pair-moved : (low high : ℕ) (l : List ℕ) (k at : ℕ) → pairOf low high l (k + at) ≡ movedOn k (pairOf low high l at)
+unfolding pairOf movedOn
 pair-moved low high [] k at = refl
 pair-moved low high (a ∷ rest) k at =
     let d : ℕ = digitOf a in
-    both-moved (moved k) (ltb d 10 && (leb low (d * 10 + 9) && leb (d * 10) high))
+    both-moved (movedOn k) (ltb d 10 && (leb low (d * 10 + 9) && leb (d * 10) high))
     (ap (secondOf low high d rest) (next k at) ∙ second-moved low high d rest k (at + 1))
     refl
 
@@ -58,10 +59,10 @@ pair-moved low high (a ∷ rest) k at =
 pub from-zero : {A : Type 0} (f : ℕ → A) (m : ℕ → A → A) → ((k at : ℕ) → f (k + at) ≡ m k (f at)) → (at : ℕ) → f at ≡ m at (f 0)
 from-zero f m h at = ap f (sym (add-zero at)) ∙ h at 0
 
-pub number-at-moved : (most limit : ℕ) (s : List ℕ) (at : ℕ) → numberAt most limit s at ≡ moved at (numberAt most limit (drop at s) 0)
+pub number-at-moved : (most limit : ℕ) (s : List ℕ) (at : ℕ) → numberAt most limit s at ≡ movedOn at (numberAt most limit (drop at s) 0)
 unfolding numberAt
-number-at-moved most limit s at = from-zero (numberGo most limit (drop at s) 0 0) moved (number-moved most limit (drop at s) 0 0) at
+number-at-moved most limit s at = from-zero (numberGo most limit (drop at s) 0 0) movedOn (number-moved most limit (drop at s) 0 0) at
 
-pub pair-at-moved : (low high : ℕ) (s : List ℕ) (at : ℕ) → pairAt low high s at ≡ moved at (pairAt low high (drop at s) 0)
+pub pair-at-moved : (low high : ℕ) (s : List ℕ) (at : ℕ) → pairAt low high s at ≡ movedOn at (pairAt low high (drop at s) 0)
 unfolding pairAt
-pair-at-moved low high s at = from-zero (pairOf low high (drop at s)) moved (pair-moved low high (drop at s)) at
+pair-at-moved low high s at = from-zero (pairOf low high (drop at s)) movedOn (pair-moved low high (drop at s)) at

@@ -8,7 +8,7 @@ use lib.ListN.{length, drop, getD, drop-of-length-le}
 use lib.Seq.{drop-cons}
 use borrow.Author.Tests.{lt-ltb, le-ltb, le-leb, lt-leb}
 use Rattle.reader.specs.Bytes.{digitOf}
-use Rattle.numbers.specs.Number.{ended, numberGo, numberAt}
+use Rattle.numbers.specs.Number.{digitsEnded, numberGo, numberAt}
 use Rattle.numbers.specs.declared.Number.the-variants.{Bad}
 
 -- what the whole says is what the bytes from `i` on say, after `n` digits with the value `v`
@@ -22,13 +22,13 @@ unfolding numberAt
 begun = record { within = omega arith; few = omega arith; whole = refl }
 
 module _ {most limit : ℕ} {s : List ℕ} {at n v i : ℕ} (w : Reading most limit s at n v i) where
-  pub at-end : length s ≤ i → numberAt most limit s at ≡ ended n v i
+  pub at-end : length s ≤ i → numberAt most limit s at ≡ digitsEnded n v i
   unfolding numberGo
   at-end h = w .whole ∙ rw (drop-of-length-le s h)
 
   -- `d` is the digit that the code has read at the place `i`
   module _ {d : ℕ} (inside : i < length s) (is : d ≡ digitOf (getD s i 0)) where
-    pub stopped : 10 ≤ d → numberAt most limit s at ≡ ended n v i
+    pub stopped : 10 ≤ d → numberAt most limit s at ≡ digitsEnded n v i
     unfolding numberGo
     stopped h = w .whole ∙ rw (drop-cons s i 0) (simp (← is, le-ltb _ _ h))
 

@@ -1,6 +1,6 @@
 -- Decimal numbers. "One to five decimal digits, here and below": how many digits at most, and up to which value, is the caller's.
 use Prim.Native.Nat.{ℕ, _+_, _*_}
-use mathlib.Core.Bool.{Bool, cond, _&&_}
+use mathlib.Core.Bool.{cond, _&&_}
 use mathlib.Core.List.{List, [], _∷_}
 use lib.ListN.{drop}
 use lib.Dec.{ltb, leb}
@@ -9,19 +9,19 @@ use Rattle.numbers.specs.declared.Number.{Number}
 use Rattle.numbers.specs.declared.Number.the-variants.{Value, Bad}
 
 -- where the digits end, after `n` of them with the value `v`: one at least is needed
-unfoldable pub ended : ℕ → ℕ → ℕ → Number
-ended n v at = cond (ltb 0 n) (Value v at) (Bad at)
+unfoldable pub digitsEnded : ℕ → ℕ → ℕ → Number
+digitsEnded n v at = cond (ltb 0 n) (Value v at) (Bad at)
 
 -- the bytes left, from the place `at`, after `n` digits with the value `v`: a digit too many, and one that takes the value over
 -- the limit, cannot be taken
 unfoldable pub numberGo : ℕ → ℕ → List ℕ → ℕ → ℕ → ℕ → Number
-numberGo most limit [] n v at = ended n v at
+numberGo most limit [] n v at = digitsEnded n v at
 numberGo most limit (b ∷ rest) n v at =
     cond (ltb (digitOf b) 10)
     (cond (ltb n most)
     (cond (leb (v * 10 + digitOf b) limit) (numberGo most limit rest (n + 1) (v * 10 + digitOf b) (at + 1)) (Bad at))
     (Bad at))
-    (ended n v at)
+    (digitsEnded n v at)
 
 -- the number at a place: its value and the place after it, or the place of the first byte that cannot be taken
 unfoldable pub numberAt : ℕ → ℕ → List ℕ → ℕ → Number
@@ -48,8 +48,3 @@ pairOf low high (a ∷ rest) at =
 -- the value of two digits at a place
 unfoldable pub pairAt : ℕ → ℕ → List ℕ → ℕ → Number
 pairAt low high s at = pairOf low high (drop at s) at
-
--- ---- the same answer, its place moved on by `k`
-unfoldable pub moved : ℕ → Number → Number
-moved k (Value v at) = Value v (k + at)
-moved k (Bad at) = Bad (k + at)

@@ -1,13 +1,14 @@
--- Laws for loops over an array: one that looks for an element, one that tests each, and one that maps each. Assumes nothing.
+-- Laws for loops over an array: one that looks for an element, and one that maps each. Assumes nothing.
 use mathlib.Core.Path.{_≡_, refl, sym, ap, _∙_}
-use mathlib.Core.Bool.{Bool, true, false, _&&_, _||_}
+use mathlib.Core.Bool.{Bool, true, false}
 use mathlib.Core.List.{List, [], _∷_, _++_, map, append-assoc}
-use Prim.Native.Nat.{ℕ, zero, suc, _+_, _≤_, _<_, min}
+use Prim.Native.Nat.{ℕ, suc, _+_, _≤_, _<_}
 use native.Mathlib.Numerals.{add-one}
 use native.Mathlib.Omega.{arith}
-use Rattle.reader.proofs.Tests.{both-left, both-right}
-use Rattle.process.specs.Events.{any, every}
-use lib.ListN.{length, getD, take, drop, set, length-take, length-map, drop-of-length-le}
+use Rattle.reader.specs.Bytes.{all}
+use Rattle.reader.proofs.Each.{each-at}
+use Rattle.process.specs.State.{any}
+use lib.ListN.{length, getD, take, drop, set, length-map, drop-of-length-le}
 use lib.Seq.{take-suc, drop-cons, take-all, set-at, getD-at, length-take-le}
 
 -- A loop that looks for an element that passes: what is left is `drop i l`.
@@ -20,22 +21,6 @@ module _ {A : Type 0} (f : A → Bool) (l : List A) (i : ℕ) (d : A) where
 
 pub any-end : {A : Type 0} (f : A → Bool) (l : List A) (i : ℕ) → length l ≤ i → any f (drop i l) ≡ false
 any-end f l i h = rw (drop-of-length-le l h)
-
--- A loop that tests each element.
-module _ {A : Type 0} (f : A → Bool) (l : List A) (i : ℕ) (d : A) where
-  pub every-not : i < length l → f (getD l i d) ≡ false → every f (drop i l) ≡ false
-  every-not h e = rw (drop-cons l i d, e)
-
-  pub every-past : i < length l → f (getD l i d) ≡ true → every f (drop i l) ≡ every f (drop (i + 1) l)
-  every-past h e = rw (add-one, drop-cons l i d, e)
-
-pub every-end : {A : Type 0} (f : A → Bool) (l : List A) (i : ℕ) → length l ≤ i → every f (drop i l) ≡ true
-every-end f l i h = rw (drop-of-length-le l h)
-
-pub every-at : {A : Type 0} (f : A → Bool) (l : List A) (i : ℕ) (d : A) → every f l ≡ true → i < length l → f (getD l i d) ≡ true
-every-at f [] i d e h = absurd (omega arith)
-every-at f (x ∷ l) zero d e h = both-left (f x) (every f l) e
-every-at f (x ∷ l) (suc i) d e h = every-at f l i d (both-right (f x) (every f l) e) (omega arith)
 
 -- A loop that maps each element in place: i of them are done.
 abbrev pub done : {A : Type 0} → (A → A) → ℕ → List A → List A
@@ -78,6 +63,6 @@ module _ {A : Type 0} (f : A → A) where
   done-more l i d {next} {y} h e g = cc (stored l i d h)
 
 -- an element that is to be mapped next passes what each element passed at the start
-pub every-done : {A : Type 0} (f : A → A) (p : A → Bool) (l : List A) (i : ℕ) (d : A) {next : List A} → every p l ≡ true → i < length l → next ≡ done f i l
+pub every-done : {A : Type 0} (f : A → A) (p : A → Bool) (l : List A) (i : ℕ) (d : A) {next : List A} → all p l ≡ true → i < length l → next ≡ done f i l
     → p (getD next i d) ≡ true
-every-done f p l i d e h n = ap p (ap (λ x. getD x i d) n ∙ done-at f l i d h) ∙ every-at p l i d e h
+every-done f p l i d e h n = ap p (ap (λ x. getD x i d) n ∙ done-at f l i d h) ∙ each-at p l i d e h

@@ -7,7 +7,7 @@ use Rattle.language.specs.declared.Clock.{Clock}
 use Rattle.language.specs.declared.Level.{Level}
 use Rattle.process.specs.declared.Reading.{Reading}
 use Rattle.process.specs.declared.Wait.the-variants.{Ticks, ClockValue, Signal}
-use Rattle.process.specs.Waiting.{awake, tickedWait, matches, readingWait, sets, levelWait}
+use Rattle.process.specs.Waiting.{awake, tickedWait, matches, readingWait, setsLevel, levelWait}
 
 module _ (place end : ℕ) where
   pub ticks-end : (n : ℕ) → leb n 1 ≡ true → tickedWait place end (Ticks n) ≡ awake place end
@@ -22,8 +22,8 @@ module _ (place end : ℕ) where
   pub clock-stays : (r : Reading) (c : Clock) → matches c r ≡ false → readingWait r place end (ClockValue c) ≡ ClockValue c
   clock-stays r c h = rw h
 
-  pub level-ends : (e l : Level) → sets l e ≡ true → levelWait e place end (Signal l) ≡ awake place end
+  pub level-ends : (e l : Level) → setsLevel l e ≡ true → levelWait e place end (Signal l) ≡ awake place end
   level-ends e l h = rw h
 
-  pub level-stays : (e l : Level) → sets l e ≡ false → levelWait e place end (Signal l) ≡ Signal l
+  pub level-stays : (e l : Level) → setsLevel l e ≡ false → levelWait e place end (Signal l) ≡ Signal l
   level-stays e l h = rw h

@@ -6,7 +6,7 @@ use lib.ListN.{take, drop}
 use lib.Dec.{ltb, leb, eqb}
 use Rattle.language.specs.declared.Clock.{Clock}
 use Rattle.language.specs.declared.Level.{Level}
-use Rattle.language.specs.Limits.{dataLimit}
+use Rattle.language.specs.Limits.{poolPlaces}
 use Rattle.process.specs.declared.Reading.{Reading}
 use Rattle.process.specs.declared.Progress.{Progress}
 use Rattle.process.specs.declared.Wait.{Wait}
@@ -82,7 +82,7 @@ byteTaken pool b p = withWait p (byteWait pool b (p .place) (p .end) (p .wait))
 
 -- a data range that the event must use lies within the pool, and what is matched within the range
 unfoldable pub progressRight : Progress → Bool
-progressRight m = leb (m .from + m .count) dataLimit && ltb (m .matched) (m .count)
+progressRight m = leb (m .from + m .count) poolPlaces && ltb (m .matched) (m .count)
 
 -- a data range that leaves the pool, or is matched past its end, is 25
 abbrev pub waitRight : Wait → Bool
@@ -136,8 +136,8 @@ sameLevel false true = false
 sameLevel false false = true
 
 -- an event sets the level that a wait is for
-unfoldable pub sets : Level → Level → Bool
-sets l e = eqb (l .signal) (e .signal) && sameLevel (l .on) (e .on)
+unfoldable pub setsLevel : Level → Level → Bool
+setsLevel l e = eqb (l .signal) (e .signal) && sameLevel (l .on) (e .on)
 
 -- such an event ends the wait
 abbrev pub levelWait : Level → ℕ → ℕ → Wait → Wait
@@ -147,7 +147,7 @@ levelWait e place end (Ticks n) = Ticks n
 levelWait e place end (Bytes n) = Bytes n
 levelWait e place end (Data m) = Data m
 levelWait e place end (ClockValue c) = ClockValue c
-levelWait e place end (Signal l) = cond (sets l e) (awake place end) (Signal l)
+levelWait e place end (Signal l) = cond (setsLevel l e) (awake place end) (Signal l)
 
 -- a process takes a level
 abbrev pub levelTaken : Level → Process → Process

@@ -1,14 +1,15 @@
 // A process and what it waits for. A state by value.
 ghost use mathlib.Core.Path.{_≡_};
-ghost use Rattle.process.specs.Events.{refusalNumber};
+ghost use Rattle.process.specs.State.{runRefusalNumber};
 use language::Clock;
+use language::LOOP_PLACES;
+use language::PROCESS_PLACES;
+use language::SIGNALS;
 
 pub mod taking;
 pub mod waits;
 
-use language::LOOPS;
 use language::Level;
-use language::PROCESSES;
 
 // A reading of the clock.
 pub struct Reading {
@@ -38,27 +39,27 @@ pub enum Wait {
     Signal(Level),
 }
 
-// A process: the place of its next statement and the place behind its last; how many loops are open, and of each the passes left,
+// A process: the place of its next statement and the place after its last; how many loops are open, and of each the passes left,
 // 0 for a forever loop, and the place where its body begins; and its wait.
 pub struct Process {
     pub place: u16,
     pub end: u16,
     pub depth: u8,
-    pub left: [u16; LOOPS],
-    pub back: [u16; LOOPS],
+    pub left: [u16; LOOP_PLACES],
+    pub back: [u16; LOOP_PLACES],
     pub wait: Wait,
 }
 
 // The state: the processes, the last reading, the levels of CTS and EX1 to EX4, and whether recording is paused.
 pub struct State {
-    pub processes: [Process; PROCESSES],
+    pub processes: [Process; PROCESS_PLACES],
     pub reading: Reading,
-    pub levels: [bool; 5],
+    pub levels: [bool; SIGNALS],
     pub paused: bool,
 }
 
 // Why a call is refused.
-pub enum Refusal {
+pub enum RunRefusal {
     Busy,
     BadReading,
     NoSuchSignal,
@@ -66,24 +67,24 @@ pub enum Refusal {
     BadTable,
 }
 
-impl Refusal {
+impl RunRefusal {
     // "Numbers the bench reads back".
     pub fn number(self) -> u8
-        ensures { λ r. ⌜ r ≡ refusalNumber self ⌝ }
+        ensures { λ r. ⌜ r ≡ runRefusalNumber self ⌝ }
     {
         match self {
-            Refusal::Busy => 21,
-            Refusal::BadReading => 22,
-            Refusal::NoSuchSignal => 23,
-            Refusal::SmallBuffer => 24,
-            Refusal::BadTable => 25,
+            RunRefusal::Busy => 21,
+            RunRefusal::BadReading => 22,
+            RunRefusal::NoSuchSignal => 23,
+            RunRefusal::SmallBuffer => 24,
+            RunRefusal::BadTable => 25,
         }
     }
 }
 
 pub enum Taken {
     Took,
-    Refused(Refusal),
+    Refused(RunRefusal),
 }
 
 pub struct Event {
@@ -98,7 +99,7 @@ pub struct Copies {
 
 pub enum Received {
     Took(Copies),
-    Refused(Refusal),
+    Refused(RunRefusal),
 }
 
 pub struct ByteEvent {

@@ -1,12 +1,12 @@
 // A process takes a tick, a reading or a level, and is handed back.
 ghost use mathlib.Core.Path.{_≡_};
 ghost use Rattle.process.specs.Waiting.{ready, withWait, ticked, readingTaken, levelTaken};
-ghost use Rattle.process.specs.Events.{any};
+ghost use Rattle.process.specs.State.{any};
 use crate::Process;
 use crate::Reading;
 use crate::Wait;
 use language::Level;
-use language::PROCESSES;
+use language::PROCESS_PLACES;
 
 impl Process {
     pub fn is_ready(self) -> bool
@@ -56,10 +56,10 @@ impl Process {
 }
 
 // Whether some process is ready.
-pub fn any_ready(ps: [Process; PROCESSES]) -> bool
+pub fn any_ready(ps: [Process; PROCESS_PLACES]) -> bool
     ensures { λ r. ⌜ r ≡ any ready ps ⌝ }
 {
-    for i in 0..8 {
+    for i in 0..PROCESS_PLACES {
         let p = ps[i];
         if p.is_ready() {
             return true;

@@ -1,23 +1,17 @@
 // What each event does to a wait.
 ghost use mathlib.Core.Path.{_≡_};
-ghost use mathlib.Core.Bool.{_&&_};
-ghost use Rattle.process.specs.Waiting.{readyWait, awake, tickedWait, unitMatches, matches, readingWait, sameLevel, sets, levelWait};
+ghost use Rattle.process.specs.Waiting.{readyWait, awake, tickedWait, unitMatches, matches, readingWait, sameLevel, setsLevel, levelWait};
 use crate::Reading;
 use crate::Wait;
 use language::Clock;
 use language::Level;
+use reader::widths::both;
 
 // "one past its last statement is never ready again"
 pub fn awaken(place: u16, end: u16) -> Wait
     ensures { λ r. ⌜ r ≡ awake place end ⌝ }
 {
     if place < end { Wait::Ready } else { Wait::Over }
-}
-
-pub fn both(a: bool, b: bool) -> bool
-    ensures { λ r. ⌜ r ≡ (a && b) ⌝ }
-{
-    if a { b } else { false }
 }
 
 pub fn same_level(a: bool, b: bool) -> bool
@@ -48,7 +42,7 @@ fn clock_matches(c: Clock, r: Reading) -> bool
 
 // Whether an event sets the level that a wait is for.
 fn sets_level(l: Level, e: Level) -> bool
-    ensures { λ r. ⌜ r ≡ sets l e ⌝ }
+    ensures { λ r. ⌜ r ≡ setsLevel l e ⌝ }
 {
     both(l.signal == e.signal, same_level(l.on, e.on))
 }

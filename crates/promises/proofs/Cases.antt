@@ -17,13 +17,13 @@ use Rattle.language.specs.Answer.{answered, scriptFrom, compiled}
 use Rattle.running.specs.Joined as joined
 use Rattle.language.proofs.Opened.{printed}
 use Rattle.process.specs.declared.Taken.the-variants as taken
-use Rattle.recording.specs.Recording as recording
+use Rattle.events.specs.Recording as recording
 use Rattle.record.specs.Logging as logging
 use Rattle.runner.specs.Calls.{Call, Reply, event}
 use Rattle.running.specs.Running as script
 use Rattle.running.specs.Agreement.{repliesOf}
 use Rattle.running.proofs.Agreement.{runs-script}
-use Rattle.promises.specs.Cases.{Case, answers, writesOut, holds, alike, runs, Runs, Says, All, cases}
+use Rattle.promises.specs.Cases.{Case, answers, writesOut, holds, alike, runs, Runs, CaseSays, All, cases}
 
 -- what is computed of a run: the text compiles, and the replies of its script
 record Ran (text : List ℕ) (qs : List Call) (rs : List Reply) : Type 0 where
@@ -44,17 +44,17 @@ runs-so text qs rs r =
 
 -- what is computed of a case, and of all
 abbrev Computed : Case → Type 0
-Computed (answers text a) = Says (answers text a)
-Computed (writesOut text k) = Says (writesOut text k)
-Computed (holds text ps) = Says (holds text ps)
-Computed (alike one other) = Says (alike one other)
+Computed (answers text a) = CaseSays (answers text a)
+Computed (writesOut text k) = CaseSays (writesOut text k)
+Computed (holds text ps) = CaseSays (holds text ps)
+Computed (alike one other) = CaseSays (alike one other)
 Computed (runs text qs rs) = Ran (ascii text) qs rs
 
 abbrev AllComputed : List Case → Type 0
 AllComputed [] = Unit {0}
 AllComputed (c ∷ cs) = Computed c × AllComputed cs
 
-says : (c : Case) → Computed c → Says c
+says : (c : Case) → Computed c → CaseSays c
 says (answers text a) e = e
 says (writesOut text k) e = e
 says (holds text ps) e = e
@@ -66,7 +66,7 @@ all-say [] e = tt
 all-say (c ∷ cs) e = (says c (e .0), all-say cs (e .1))
 
 computed : AllComputed cases
-unfolding compiled scriptFrom printed writing.times writing.repeated writing.written writing.run answered isByte right.timeRight cell.spanNumber cell.clockNumber cell.coded cell.spanRight cell.unitRight cell.fixedRight cell.cellOf cell.decoded cell.clockFrom table.cellFor table.wordsFrom table.poolOf table.endsFrom table.headsOf table.laidOut joined.joinedIn joined.joinTo joined.joinTwo joined.awaits joined.done script.nextIn script.nextBy script.isStatement script.busy script.endsIn script.gets script.closed script.logged script.does script.later script.takes script.turn script.drained script.timesBy script.times script.started script.called script.replies recording.oneOf logging.signText logging.writtenOut logging.recordOf logging.nextCount
+unfolding compiled scriptFrom printed writing.repeatedTimes writing.repeated writing.written writing.run answered isByte right.timeRight cell.spanNumber cell.clockNumber cell.coded cell.spanRight cell.unitRight cell.fixedRight cell.cellOf cell.decoded cell.clockFrom table.cellFor table.wordsFrom table.poolOf table.endsFrom table.headsOf table.laidOut joined.joinedIn joined.joinTo joined.joinTwo joined.awaits joined.done script.nextIn script.nextBy script.isStatement script.busy script.endsIn script.gets script.closed script.logged script.does script.later script.takes script.turn script.drained script.timesBy script.timesRecorded script.started script.called script.replies recording.oneOf logging.signText logging.writtenOut logging.recordOf logging.nextCount
 computed =
     (refl, (λ m. refl, (refl, (λ m. refl, (refl, (λ m. refl, (refl, (refl, (refl, (record { stretch = 0; bytes = refl; result = refl; replied = λ y. refl }, (refl, (refl, (refl, (refl, (refl, (refl, (record { stretch = 1; bytes = refl; result = refl; replied = λ y. refl }, (record { stretch = 1; bytes = refl; result = refl; replied = λ y. refl }, (record { stretch = 7; bytes = refl; result = refl; replied = λ y. refl }, tt)))))))))))))))))))
 

@@ -12,33 +12,34 @@ use Rattle.language.specs.declared.Table.{Table}
 use Rattle.language.specs.Limits.{processLimit}
 use Rattle.accepted.specs.Accepted.{tableRight}
 use Rattle.process.specs.declared.State.{State}
-use Rattle.process.specs.declared.Refusal.{Refusal}
-use Rattle.process.specs.declared.Refusal.the-variants.{Busy, BadReading, NoSuchSignal, SmallBuffer, BadTable}
+use Rattle.process.specs.declared.RunRefusal.{RunRefusal}
+use Rattle.process.specs.declared.RunRefusal.the-variants.{Busy, BadReading, NoSuchSignal, SmallBuffer, BadTable}
 use Rattle.process.specs.declared.Taken.the-variants as taken
 use Rattle.process.specs.declared.Received.the-variants as received
-use Rattle.outcome.specs.declared.Outcome.the-variants.{Quiet, Sent, Recorded, Rts, Fchange, Pause, Resume, Plain, Refused}
+use Rattle.statement.specs.declared.outcome.Outcome.the-variants.{Quiet, Sent, Recorded, Rts, Fchange, Pause, Resume, Plain, Refused}
 use Rattle.process.specs.declared.Event.{Event}
 use Rattle.process.specs.declared.ByteEvent.{ByteEvent}
 use Rattle.runner.specs.declared.Drained.{Drained}
-use Rattle.process.specs.Events.{refusalNumber, busy, refused, took, tickEvent, readingRight, readingEvent, levelEvent}
-use Rattle.receiving.specs.Receiving.{rangesRight, byteEvent}
+use Rattle.process.specs.State.{runRefusalNumber, busy}
+use Rattle.events.specs.Events.{refused, took, tickEvent, readingRight, readingEvent, levelEvent}
+use Rattle.events.specs.Receiving.{rangesRight, byteEvent}
 use Rattle.statement.specs.Moving.{moved, cellAt}
-use Rattle.outcome.specs.Saying.{outcomeOf}
-use Rattle.runner.specs.Draining.{lowest, turn, does, writes, stateAfter, unaltered, drained, bufferAfter, countsAfter}
+use Rattle.statement.specs.Saying.{outcomeOf}
+use Rattle.runner.specs.Draining.{lowest, turnOf, does, writes, stateAfter, unaltered, drained, bufferAfter, countsAfter}
 use Rattle.runner.specs.Calls as calls
-use Rattle.starting.specs.Starting.{startEvent, startCounts}
+use Rattle.runner.specs.Starting.{startEvent, startCounts}
 use Rattle.runner.specs.Calls.{Box, Call, start, tick, byte, reading, drain, Reply, event, outcome, boxed, startCall}
 use Rattle.bounded.specs.Replies.{called, takenNumber, receivedNumber, outcomeNumber, replyNumber}
 use Rattle.promises.specs.Demand1.{Refuses, Spares}
-use Rattle.bounded.proofs.Calling.{outcome-did}
+use Rattle.bounded.proofs.Keeping.{outcome-did}
 
 -- ---- the numbers
 
 abbrev Numbered : ℕ → Type 0
 Numbered n = (n ≡ 0) ⊎ ((21 ≤ n) × (n ≤ 25))
 
-refusal-numbered : (r : Refusal) → Numbered (refusalNumber r)
-unfolding refusalNumber
+refusal-numbered : (r : RunRefusal) → Numbered (runRefusalNumber r)
+unfolding runRefusalNumber
 refusal-numbered Busy = inr (omega arith, omega arith)
 refusal-numbered BadReading = inr (omega arith, omega arith)
 refusal-numbered NoSuchSignal = inr (omega arith, omega arith)
@@ -74,7 +75,7 @@ module _ (b : Box) where
   took-leaves : (s : State) → Leaves (took s)
   took-leaves s l = absurd (omega arith)
 
-  refused-leaves : (r : Refusal) → Leaves (refused (b .state) r)
+  refused-leaves : (r : RunRefusal) → Leaves (refused (b .state) r)
   refused-leaves r l = refl
 
 -- what the three tests of a drain decide: where it is refused it does no statement
@@ -95,9 +96,9 @@ module _ (t : Table) (b : Box) where
       (drained (t .cells) (t .pool) (b .state) (b .counts) room .state ≡ b .state) × (cond (does (t .cells) (b .state) room) written out ≡ out)
   unfolding drained does
   drain-both room out written l =
-      drain-leaves (ltb (lowest (b .state .processes)) processLimit) (moved (t .cells) (b .state .levels) (turn (b .state)) .found) (ltb 127 room) (b .state)
-      (record { state = stateAfter (t .cells) (b .state); outcome = outcomeOf (length (writes (t .cells) (t .pool) (b .state) (b .counts))) (cellAt (t .cells) (turn (b .state))) })
-      out written (outcome-did (length (writes (t .cells) (t .pool) (b .state) (b .counts))) (cellAt (t .cells) (turn (b .state))) .1) l
+      drain-leaves (ltb (lowest (b .state .processes)) processLimit) (moved (t .cells) (b .state .levels) (turnOf (b .state)) .found) (ltb 127 room) (b .state)
+      (record { state = stateAfter (t .cells) (b .state); outcome = outcomeOf (length (writes (t .cells) (t .pool) (b .state) (b .counts))) (cellAt (t .cells) (turnOf (b .state))) })
+      out written (outcome-did (length (writes (t .cells) (t .pool) (b .state) (b .counts))) (cellAt (t .cells) (turnOf (b .state))) .1) l
 
   start-leaves : (right : Bool) → 0 < replyNumber (event (startEvent right (t .heads) (b .state) .answer)) →
       boxed (startEvent right (t .heads) (b .state) .state) (startCounts right (b .counts)) ≡ b

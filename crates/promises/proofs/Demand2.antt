@@ -9,7 +9,7 @@ use Rattle.language.specs.Stretch.{stretchOf}
 use Rattle.language.specs.Answer.{answered, scriptFrom, compiled}
 use Rattle.language.proofs.Trip.{right-accepted}
 use Rattle.stretch.specs.Marks.{processesOf}
-use Rattle.stretch.specs.Reported.{Says}
+use Rattle.stretch.specs.Reported.{AnswerSays}
 use Rattle.stretch.proofs.Reports.{measured-reported}
 use Rattle.accepted.proofs.Exactly.{laid-out, script-right}
 use Rattle.bounded.specs.Replies.{Compiles}
@@ -23,5 +23,5 @@ demand-2 {t = t} c =
     let has = right-accepted stretchOf (scriptOf t) (script-right t (a .started)) in
     record {
       listed = record { bytes = has .bytes; result = ap answered (has .result) ∙ rw (a .reported, laid-out t (a .started)) };
-      stretch = subst (Says (processesOf (t .cells) (t .heads))) (a .measures) (measured-reported (t .cells) (t .heads));
+      stretch = subst (AnswerSays (processesOf (t .cells) (t .heads))) (a .measures) (measured-reported (t .cells) (t .heads));
     }

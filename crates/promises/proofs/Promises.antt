@@ -4,13 +4,13 @@ use Prim.Native.Nat.{ℕ}
 use Rattle.language.specs.declared.Table.{Table}
 use Rattle.runner.specs.Calls.{Box, Call}
 use Rattle.bounded.specs.Replies.{Compiles}
-use Rattle.bounded.specs.Demand3.{fresh, after, Bounded}
+use Rattle.bounded.specs.Demand3.{fresh, afterCalls, Bounded}
 use Rattle.bounded.proofs.Demand3.{demand-3}
 use Rattle.running.specs.Agreement.{RunsScript}
 use Rattle.running.proofs.Agreement.{runs-script}
-use Rattle.running.specs.Neighbours.{ScriptsApart, BoxesApart, Quiets, HasRuns}
+use Rattle.running.specs.Neighbours.{ScriptsApart, BoxesApart, NorthsApart, Quiets, HasRuns}
 use Rattle.running.proofs.Neighbours.{scripts-apart}
-use Rattle.running.proofs.Boxes.{boxes-apart}
+use Rattle.running.proofs.Boxes.{boxes-apart, norths-apart}
 use Rattle.running.proofs.Quieted.{quiets, has-runs}
 use Rattle.promises.specs.Demand1.{AltersNothing}
 use Rattle.promises.specs.Demand2.{Faithful}
@@ -47,7 +47,7 @@ whatever-the-table = whatever
 -- 3. Take a script that was accepted, started afresh, with table and states handed on unaltered. Under every sequence of calls, refused ones among
 -- them, no process leaves its own statements, holds more than 8 open loops or is answered 25; and between a start, or an accepted event, and the next
 -- start or quiet moment no process does more than 4,097 statements.
-pub a-run-stays-bounded : {text : List ℕ} {t : Table} {k : ℕ} → Compiles text t k → (b : Box) (qs : List Call) → Bounded t k (after t (fresh t b) qs)
+pub a-run-stays-bounded : {text : List ℕ} {t : Table} {k : ℕ} → Compiles text t k → (b : Box) (qs : List Call) → Bounded t k (afterCalls t (fresh t b) qs)
 a-run-stays-bounded = demand-3
 
 -- Document 02, No. 10. Take two accepted scripts that agree in process k and differ in the others as you like. Feed both the same events, each at a quiet
@@ -58,6 +58,10 @@ one-north-does-not-move-the-other = boxes-apart
 
 pub of-scripts-too : ScriptsApart
 of-scripts-too = scripts-apart
+
+-- the request's own sentence, with all that it gives
+pub as-the-request-has-it : NorthsApart
+as-the-request-has-it = norths-apart
 
 -- 8 x 4,097 drains leave no process ready, whatever calls came since the start; so every list of events whose readings and signals are in range can be fed
 -- as No. 10 asks.

@@ -13,28 +13,27 @@ use Rattle.hex.specs.Hex.{Said, hexInto, hexPut, good, bad}
 use Rattle.writer.specs.declared.Put.the-variants.{Next, NoRoom}
 use Rattle.writer.specs.Put.{putAnswer, putInto}
 use Rattle.language.specs.declared.Table.{Table}
-use Rattle.language.specs.declared.Fault.{Fault}
-use Rattle.language.specs.declared.Fault.the-variants as fault
+use Rattle.language.specs.declared.TextFault.{TextFault}
+use Rattle.language.specs.declared.TextFault.the-variants as fault
 use Rattle.language.specs.declared.Answer.the-variants as answer
 use Rattle.language.specs.Draft.{Result, accepted, refused}
-use Rattle.language.specs.Table.{zeros}
+use Rattle.language.specs.Table.{zeroTable}
 use Rattle.language.specs.Answer as texts
 use Rattle.language.specs.Answer.{answered, scriptFrom, compiled}
 use Rattle.record.specs.Logging.{recordOf, recordAnswer, recordInto}
 use Rattle.accepted.specs.Accepted.{tableRight}
-use Rattle.lister.specs.declared.Wrong as wrongs
-use Rattle.lister.specs.declared.Wrong.the-variants as wrong
+use Rattle.lister.specs.declared.ListRefusal as refusals
+use Rattle.lister.specs.declared.ListRefusal.the-variants as wrong
 use Rattle.lister.specs.declared.Listed.the-variants.{Wrote, Refused}
 use Rattle.lister.specs.Listed as tables
-use Rattle.printer.specs.Print.{listingOf}
-use Rattle.lister.specs.Listed.{listAnswer, listInto}
+use Rattle.lister.specs.Listed.{listingOf, listAnswer, listInto}
 use Rattle.promises.specs.Demand1.{RefusesText, RefusesTable, WritesAllOrNothing, AltersNothing}
 use Rattle.promises.proofs.Demand1.{demand-1, demand-1-lent}
 
 -- ---- the compiler
 
-text-numbered : (f : Fault) → (1 ≤ texts.numberOf f) × (texts.numberOf f ≤ 12)
-unfolding texts.numberOf
+text-numbered : (f : TextFault) → (1 ≤ texts.faultNumber f) × (texts.faultNumber f ≤ 12)
+unfolding texts.faultNumber
 text-numbered fault.TextTooLong = (omega arith, omega arith)
 text-numbered fault.LineTooLong = (omega arith, omega arith)
 text-numbered fault.TooManyLines = (omega arith, omega arith)
@@ -48,7 +47,7 @@ text-numbered fault.LoopLeftOpen = (omega arith, omega arith)
 text-numbered fault.TooManyProcesses = (omega arith, omega arith)
 text-numbered fault.StretchTooLong = (omega arith, omega arith)
 
-zeroed : (r : Result) (f : Fault) (row : ℕ) → answered r .answer ≡ answer.Refused f row → answered r .table ≡ zeros
+zeroed : (r : Result) (f : TextFault) (row : ℕ) → answered r .answer ≡ answer.Refused f row → answered r .table ≡ zeroTable
 unfolding answered
 zeroed (accepted s) f row e = true-is-false (cc)
 zeroed (refused g n) f row e = refl
@@ -59,12 +58,12 @@ refuses-text text = record { numbered = text-numbered; zeroed = zeroed (scriptFr
 
 -- ---- the lister
 
-table-numbered : (w : wrongs.Wrong) → (25 ≤ tables.numberOf w) × (tables.numberOf w ≤ 26)
-unfolding tables.numberOf
+table-numbered : (w : refusals.ListRefusal) → (25 ≤ tables.listRefusalNumber w) × (tables.listRefusalNumber w ≤ 26)
+unfolding tables.listRefusalNumber
 table-numbered wrong.BadTable = (omega arith, omega arith)
 table-numbered wrong.NoRoom = (omega arith, omega arith)
 
-unaltered-by : (right room : Bool) (n : ℕ) (w : wrongs.Wrong) (out written : List ℕ) →
+unaltered-by : (right room : Bool) (n : ℕ) (w : refusals.ListRefusal) (out written : List ℕ) →
     cond right (cond room (Wrote n) (Refused wrong.NoRoom)) (Refused wrong.BadTable) ≡ Refused w → cond right (cond room written out) out ≡ out
 unaltered-by true true n w out written e = true-is-false (cc)
 unaltered-by true false n w out written e = refl

@@ -4,9 +4,9 @@ use lib.ListN.{length}
 use Rattle.language.specs.Answer.{compiled}
 use Rattle.accepted.specs.Accepted.{tableRight}
 use Rattle.lister.specs.Listed.{listAnswer, listInto}
-use Rattle.process.specs.Events.{tickEvent, readingEvent, levelEvent}
-use Rattle.receiving.specs.Receiving.{byteEvent}
-use Rattle.starting.specs.Starting.{startEvent, startCounts}
+use Rattle.events.specs.Events.{tickEvent, readingEvent, levelEvent}
+use Rattle.events.specs.Receiving.{byteEvent}
+use Rattle.runner.specs.Starting.{startEvent, startCounts}
 use Rattle.runner.specs.Draining.{drained, bufferAfter, countsAfter}
 use Rattle.promises.specs.Settled.{Settles, Value, Lent, LentTwo, Shapes, Settled}
 

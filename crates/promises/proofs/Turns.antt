@@ -15,19 +15,20 @@ use Rattle.language.specs.Limits.{processLimit}
 use Rattle.process.specs.declared.Process.{Process}
 use Rattle.process.specs.declared.State.{State}
 use Rattle.process.specs.declared.Copies.{Copies}
-use Rattle.process.specs.declared.Refusal.{Refusal}
-use Rattle.process.specs.declared.Refusal.the-variants.{Busy, BadReading, NoSuchSignal, SmallBuffer, BadTable}
+use Rattle.process.specs.declared.RunRefusal.{RunRefusal}
+use Rattle.process.specs.declared.RunRefusal.the-variants.{Busy, BadReading, NoSuchSignal, SmallBuffer, BadTable}
 use Rattle.process.specs.declared.Received.the-variants as received
-use Rattle.outcome.specs.declared.Outcome.the-variants.{Quiet, Refused}
+use Rattle.statement.specs.declared.outcome.Outcome.the-variants.{Quiet, Refused}
 use Rattle.process.specs.declared.Event.{Event}
 use Rattle.process.specs.declared.ByteEvent.{ByteEvent}
 use Rattle.runner.specs.declared.Drained.{Drained}
 use Rattle.process.specs.Waiting.{byteTaken}
-use Rattle.process.specs.Events.{busy, refused, took, tickEvent, readingRight, readingEvent, levelEvent}
-use Rattle.receiving.specs.Receiving.{answeredWith, rangesRight, byteEvent}
+use Rattle.process.specs.State.{busy}
+use Rattle.events.specs.Events.{refused, took, tickEvent, readingRight, readingEvent, levelEvent}
+use Rattle.events.specs.Receiving.{answeredWith, rangesRight, byteEvent}
 use Rattle.statement.specs.Moving.{moved, cellAt}
-use Rattle.outcome.specs.Saying.{outcomeOf}
-use Rattle.runner.specs.Draining.{lowest, nobody, turn, does, writes, unaltered, stateAfter, drained, countsAfter}
+use Rattle.statement.specs.Saying.{outcomeOf}
+use Rattle.runner.specs.Draining.{lowest, nobody, turnOf, does, writes, unaltered, stateAfter, drained, countsAfter}
 use Rattle.runner.specs.Calls as calls
 use Rattle.runner.specs.Calls.{Box, Call, start, tick, byte, reading, level, drain, answeredBy, receivedBy}
 use Rattle.bounded.specs.Replies.{called, isEvent}
@@ -75,17 +76,17 @@ module _ (b : Box) where
   Fair e = TakenWhenQuiet b (answeredBy (b .counts) e)
 
   -- refused, it alters nothing
-  refused-fair : (r : Refusal) → Fair (refused (b .state) r)
-  unfolding replies.took
+  refused-fair : (r : RunRefusal) → Fair (refused (b .state) r)
+  unfolding replies.wasTaken
   refused-fair r = record { only = λ e. true-is-false (sym e); unaltered = λ e. refl }
 
   module _ (quiet : busy (b .state) ≡ false) where
     took-fair : (s : State) → Fair (took s)
-    unfolding replies.took
+    unfolding replies.wasTaken
     took-fair s = record { only = λ e. quiet; unaltered = λ e. true-is-false e }
 
     -- by a test of its own
-    only-if : (u : Bool) (s : State) (r : Refusal) → Fair (cond u (took s) (refused (b .state) r))
+    only-if : (u : Bool) (s : State) (r : RunRefusal) → Fair (cond u (took s) (refused (b .state) r))
     only-if u s r = by-cases Fair u (took s) (refused (b .state) r) (λ v. took-fair s) (λ v. refused-fair r)
 
   unless-busy : (e : Event) → (busy (b .state) ≡ false → Fair e) → Fair (cond (busy (b .state)) (refused (b .state) Busy) e)
@@ -94,12 +95,12 @@ module _ (b : Box) where
   abbrev FairByte : ByteEvent → Type 0
   FairByte e = TakenWhenQuiet b (receivedBy (b .counts) e)
 
-  refused-byte : (r : Refusal) → FairByte (answeredWith (b .state) (received.Refused r))
-  unfolding replies.took
+  refused-byte : (r : RunRefusal) → FairByte (answeredWith (b .state) (received.Refused r))
+  unfolding replies.wasTaken
   refused-byte r = record { only = λ e. true-is-false (sym e); unaltered = λ e. refl }
 
   took-byte : (s : State) (c : Copies) → busy (b .state) ≡ false → FairByte (answeredWith s (received.Took c))
-  unfolding replies.took
+  unfolding replies.wasTaken
   took-byte s c quiet = record { only = λ e. quiet; unaltered = λ e. true-is-false e }
 
   byte-fair : (pool : List ℕ) (h : Heads) (x : ℕ) → FairByte (byteEvent pool h (b .state) x)
@@ -136,8 +137,8 @@ module _ (t : Table) (b : Box) (room : ℕ) where
   unfolding drained does
   state-is =
       let n : ℕ = length (writes (t .cells) (t .pool) (b .state) (b .counts)) in
-      state-by (ltb (lowest (b .state .processes)) processLimit) (moved (t .cells) (b .state .levels) (turn (b .state)) .found) (ltb 127 room) (b .state)
-      (record { state = stateAfter (t .cells) (b .state); outcome = outcomeOf n (cellAt (t .cells) (turn (b .state))) })
+      state-by (ltb (lowest (b .state .processes)) processLimit) (moved (t .cells) (b .state .levels) (turnOf (b .state)) .found) (ltb 127 room) (b .state)
+      (record { state = stateAfter (t .cells) (b .state); outcome = outcomeOf n (cellAt (t .cells) (turnOf (b .state))) })
 
   abbrev after : State
   after = called t (drain room) b .box .state

@@ -15,15 +15,16 @@ use Rattle.language.specs.declared.Table.{Table}
 use Rattle.language.specs.Limits.{processLimit}
 use Rattle.process.specs.declared.Reading.{Reading}
 use Rattle.process.specs.declared.State.{State}
-use Rattle.process.specs.declared.Refusal.the-variants.{SmallBuffer, BadTable}
+use Rattle.process.specs.declared.RunRefusal.the-variants.{SmallBuffer, BadTable}
 use Rattle.record.specs.Logging.{recordOf}
 use Rattle.statement.specs.Moving.{moved, cellAt}
-use Rattle.outcome.specs.declared.Outcome.the-variants.{Quiet, Refused}
-use Rattle.outcome.specs.Saying.{outcomeOf}
-use Rattle.turn.specs.Writing.{bytesOf, OfWord}
-use Rattle.turn.proofs.Written.{of-word, sent-fits}
+use Rattle.statement.specs.declared.outcome.Outcome.the-variants.{Quiet, Refused}
+use Rattle.statement.specs.Saying.{outcomeOf}
+use Rattle.runner.specs.Writing.{writesFor}
+use Rattle.runner.specs.inside.Writing.{OfWord}
+use Rattle.runner.proofs.Written.{of-word, sent-fits}
 use Rattle.runner.specs.declared.Drained.{Drained}
-use Rattle.runner.specs.Draining.{lowest, turn, does, writes, unaltered, drained, bufferAfter}
+use Rattle.runner.specs.Draining.{lowest, turnOf, does, writes, unaltered, drained, bufferAfter}
 use Rattle.runner.specs.Calls as calls
 use Rattle.runner.specs.Calls.{Box}
 use Rattle.promises.specs.Turns.{toldBytes, DrainWrote}
@@ -31,8 +32,8 @@ use Rattle.promises.specs.Turns.{toldBytes, DrainWrote}
 -- ---- of a statement
 
 -- it writes at most 127 bytes
-few : (pool : List ℕ) (r : Reading) (count : ℕ) (c : Cell) → OfWord c → length (bytesOf pool r count c) ≤ 127
-unfolding bytesOf recordOf
+few : (pool : List ℕ) (r : Reading) (count : ℕ) (c : Cell) → OfWord c → length (writesFor pool r count c) ≤ 127
+unfolding writesFor recordOf
 few pool r count cell.Nothing h = omega arith
 few pool r count (cell.Send s) h = omega (arith, sent-fits {s = s} h refl, length-take (s .count) (drop (s .from) pool))
 few pool r count (cell.Loop n) h = omega arith
@@ -51,8 +52,8 @@ few pool r count cell.Nop h = omega arith
 few pool r count cell.Unknown h = omega arith
 
 -- and tells how many
-tells : (pool : List ℕ) (r : Reading) (count : ℕ) (c : Cell) → toldBytes (outcomeOf (length (bytesOf pool r count c)) c) ≡ length (bytesOf pool r count c)
-unfolding bytesOf outcomeOf
+tells : (pool : List ℕ) (r : Reading) (count : ℕ) (c : Cell) → toldBytes (outcomeOf (length (writesFor pool r count c)) c) ≡ length (writesFor pool r count c)
+unfolding writesFor outcomeOf
 tells pool r count cell.Nothing = refl
 tells pool r count (cell.Send s) = refl
 tells pool r count (cell.Loop n) = refl
@@ -102,7 +103,7 @@ module _ (t : Table) (b : Box) (out : List ℕ) where
 
   wide : does (t .cells) (b .state) (length out) ≡ true → 127 < length out
   unfolding does
-  wide e = ltb-true 127 (length out) (go (ltb (lowest (b .state .processes)) processLimit) (moved (t .cells) (b .state .levels) (turn (b .state)) .found) _ e)
+  wide e = ltb-true 127 (length out) (go (ltb (lowest (b .state .processes)) processLimit) (moved (t .cells) (b .state .levels) (turnOf (b .state)) .found) _ e)
     where
       go : (u v x : Bool) → cond u (cond v x false) false ≡ true → x ≡ true
       go true true x q = q
@@ -112,15 +113,15 @@ module _ (t : Table) (b : Box) (out : List ℕ) where
   fits : does (t .cells) (b .state) (length out) ≡ true → length wrote ≤ length out
   unfolding writes
   fits e =
-      let p = turn (b .state) in
+      let p = turnOf (b .state) in
       omega (arith, wide e, few (t .pool) (b .state .reading) (getD (b .counts) (p .place) 0) (cellAt (t .cells) p) (of-word (getD (t .cells) (p .place) 0) refl))
 
   pub drain-wrote : DrainWrote t b out
   unfolding calls.called drained does writes bufferAfter
   drain-wrote = record {
     told =
-        told-by (ltb (lowest (b .state .processes)) processLimit) (moved (t .cells) (b .state .levels) (turn (b .state)) .found) (ltb 127 (length out)) (b .state) _ wrote
-        (tells (t .pool) (b .state .reading) (getD (b .counts) (turn (b .state) .place) 0) (cellAt (t .cells) (turn (b .state))));
+        told-by (ltb (lowest (b .state .processes)) processLimit) (moved (t .cells) (b .state .levels) (turnOf (b .state)) .found) (ltb 127 (length out)) (b .state) _ wrote
+        (tells (t .pool) (b .state .reading) (getD (b .counts) (turnOf (b .state) .place) 0) (cellAt (t .cells) (turnOf (b .state))));
     front = front-by wrote out (does (t .cells) (b .state) (length out)) fits;
     rest = rest-by wrote out (does (t .cells) (b .state) (length out)) fits;
   }

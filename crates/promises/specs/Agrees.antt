@@ -3,11 +3,11 @@
 use mathlib.Core.Path.{_≡_}
 use mathlib.Core.Bool.{true}
 use mathlib.Core.List.{List}
-use Prim.Native.Nat.{ℕ, _<_}
+use Prim.Native.Nat.{ℕ, _≤_}
 use lib.ListN.{length}
 use Rattle.language.specs.declared.Heads.{Heads}
 use Rattle.language.specs.declared.Table.{Table}
-use Rattle.language.specs.Limits.{processLimit}
+use Rattle.language.specs.Limits.{processLimit, drainLeast}
 use Rattle.language.specs.Script.{Statement, Script}
 use Rattle.process.specs.declared.State.{State}
 use Rattle.runner.specs.Calls as runner
@@ -37,7 +37,7 @@ pub record Means : Type 0 where
   -- "An event is taken only when no process is ready."; a received byte "counts for waits in every case"
   pub taken : (s : Script) (b : Box) (q : Call) → isEvent q ≡ true → script.EventTaken b q (running.called s q b)
   -- "A drain does one statement of the lowest-numbered ready process and says what it sent, recorded or switched; or says quiet exactly when none is ready."
-  pub drained : (s : Script) (b : Box) (room : ℕ) (wide : 127 < room) → script.OneStatement s b room wide
+  pub drained : (s : Script) (b : Box) (room : ℕ) (enough : drainLeast ≤ room) → script.OneStatement s b room enough
   -- "A received byte is recorded once; not at all if paused or in OMIT; in all other cases twice if it is the ENCODE byte."
   pub recorded : (s : Script) (b : Box) (qs : List Call) → script.RecordedRight s b qs
   -- "Each LOG statement has its own `@c`"

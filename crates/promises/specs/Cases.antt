@@ -8,7 +8,7 @@ use lib.ListN.{take}
 use lib.Seq.{slice}
 use Rattle.reader.specs.Ascii.{ascii}
 use Rattle.figures.specs.Flat.{fragment}
-use Rattle.figures.specs.Written.{written, longest}
+use Rattle.figures.specs.Written.{written, longestRun}
 use Rattle.language.specs.declared.Cell.{Cell}
 use Rattle.language.specs.declared.Cell.the-variants.{WaitTime}
 use Rattle.language.specs.declared.Answer.{Answer}
@@ -18,7 +18,7 @@ use Rattle.language.specs.Cell.{decoded}
 use Rattle.language.specs.Script.{Statement, processes}
 use Rattle.language.specs.Stretch.{markOf}
 use Rattle.language.specs.Draft.{Result, accepted, refused, resultOf}
-use Rattle.language.specs.Answer.{numberOf, scriptFrom, compiled}
+use Rattle.language.specs.Answer.{faultNumber, scriptFrom, compiled}
 use Rattle.accepted.specs.Accepted.{tableRight}
 use Rattle.process.specs.declared.Taken.the-variants as taken
 use Rattle.runner.specs.Calls.{Box, Call, start, byte, drain, Reply, event, replies}
@@ -27,14 +27,14 @@ use Rattle.running.specs.Running as script
 use Rattle.running.specs.Agreement.{repliesOf}
 
 -- what the bench reads back of a text: the stretch; or the number of the refusal, and the line or process
-pub data Told : Type 0 where
-  stretch : ℕ → Told
-  number : ℕ → ℕ → Told
+pub data ReadBack : Type 0 where
+  stretch : ℕ → ReadBack
+  number : ℕ → ℕ → ReadBack
 
 -- what an answer is read back as
-abbrev pub told : Answer → Told
-told (Accepted k) = stretch k
-told (Refused f row) = number (numberOf f) row
+abbrev pub readBack : Answer → ReadBack
+readBack (Accepted k) = stretch k
+readBack (Refused f row) = number (faultNumber f) row
 
 -- the statements of each process, as the table has them
 abbrev pub statementsFrom : List ℕ → ℕ → List ℕ → List (List Cell)
@@ -47,7 +47,7 @@ statements t = statementsFrom (t .cells) 0 (take (t .heads .processes) (t .heads
 
 -- the longest run of each process's statements written out, m passes of each forever loop among them; the text is taken without the bound of 11
 abbrev pub longestBy : ℕ → Result → List ℕ
-longestBy m (accepted s) = map (λ (p : List Statement). longest (written m (fragment (map markOf p)))) (processes (s .body))
+longestBy m (accepted s) = map (λ (p : List Statement). longestRun (written m (fragment (map markOf p)))) (processes (s .body))
 longestBy m (refused f row) = []
 
 -- the script of a text, however long its stretch
@@ -57,7 +57,7 @@ unbounded text = resultOf (λ p. 0) text
 -- a text, and what it is answered; the longest run of its one process written out; the statements of its processes; two texts with the same table;
 -- or the replies to some calls after a start
 pub data Case : Type 0 where
-  answers : String → Told → Case
+  answers : String → ReadBack → Case
   writesOut : String → ℕ → Case
   holds : String → List (List Cell) → Case
   alike : String → String → Case
@@ -69,17 +69,17 @@ pub record Runs (text : List ℕ) (qs : List Call) (rs : List Reply) : Type 0 wh
   pub runner : (b : Box) → replies tableRight (compiled text .table) b (start ∷ qs) ≡ event taken.Took ∷ rs
 
 -- the table of a refused text has no process, so one with statements is an accepted text's
-abbrev pub Says : Case → Type 0
-Says (answers text a) = told (compiled (ascii text) .answer) ≡ a
-Says (writesOut text k) = (m : ℕ) → longestBy m (unbounded (ascii text)) ≡ k ∷ []
-Says (holds text ps) = statements (compiled (ascii text) .table) ≡ ps
-Says (alike one other) = compiled (ascii one) .table ≡ compiled (ascii other) .table
-Says (runs text qs rs) = Runs (ascii text) qs rs
+abbrev pub CaseSays : Case → Type 0
+CaseSays (answers text a) = readBack (compiled (ascii text) .answer) ≡ a
+CaseSays (writesOut text k) = (m : ℕ) → longestBy m (unbounded (ascii text)) ≡ k ∷ []
+CaseSays (holds text ps) = statements (compiled (ascii text) .table) ≡ ps
+CaseSays (alike one other) = compiled (ascii one) .table ≡ compiled (ascii other) .table
+CaseSays (runs text qs rs) = Runs (ascii text) qs rs
 
 -- every case of a table of cases
 abbrev pub All : List Case → Type 0
 All [] = Unit {0}
-All (c ∷ cs) = Says c × All cs
+All (c ∷ cs) = CaseSays c × All cs
 
 -- each byte, and a drain after it
 abbrev pub bytesThen : List ℕ → List Call → List Call

@@ -11,12 +11,12 @@ use Rattle.hex.specs.Hex.{Said, hexInto, hexPut}
 use Rattle.writer.specs.declared.Put.the-variants.{NoRoom}
 use Rattle.writer.specs.Put.{putAnswer, putInto}
 use Rattle.language.specs.declared.Table.{Table}
-use Rattle.language.specs.declared.Fault.{Fault}
+use Rattle.language.specs.declared.TextFault.{TextFault}
 use Rattle.language.specs.declared.Answer.the-variants as answer
-use Rattle.language.specs.Table.{zeros}
+use Rattle.language.specs.Table.{zeroTable}
 use Rattle.language.specs.Answer as texts
 use Rattle.language.specs.Answer.{compiled}
-use Rattle.lister.specs.declared.Wrong as wrongs
+use Rattle.lister.specs.declared.ListRefusal as refusals
 use Rattle.lister.specs.declared.Listed.the-variants as listed
 use Rattle.lister.specs.Listed as tables
 use Rattle.lister.specs.Listed.{listAnswer, listInto}
@@ -39,13 +39,13 @@ pub record Spares (t : Table) (b : Box) (out : List ℕ) : Type 0 where
 
 -- the compiler: its numbers are 1 to 12, and "a table handed back by value with a refusal is all zeros"
 pub record RefusesText (text : List ℕ) : Type 0 where
-  pub numbered : (f : Fault) → (1 ≤ texts.numberOf f) × (texts.numberOf f ≤ 12)
-  pub zeroed : (f : Fault) (row : ℕ) → compiled text .answer ≡ answer.Refused f row → compiled text .table ≡ zeros
+  pub numbered : (f : TextFault) → (1 ≤ texts.faultNumber f) × (texts.faultNumber f ≤ 12)
+  pub zeroed : (f : TextFault) (row : ℕ) → compiled text .answer ≡ answer.Refused f row → compiled text .table ≡ zeroTable
 
 -- the lister: its numbers are 25 and 26, and the buffer that is lent to it has the bytes it had
 pub record RefusesTable (t : Table) (out : List ℕ) : Type 0 where
-  pub numbered : (w : wrongs.Wrong) → (25 ≤ tables.numberOf w) × (tables.numberOf w ≤ 26)
-  pub unaltered : (w : wrongs.Wrong) → listAnswer t out ≡ listed.Refused w → listInto t out ≡ out
+  pub numbered : (w : refusals.ListRefusal) → (25 ≤ tables.listRefusalNumber w) × (tables.listRefusalNumber w ≤ 26)
+  pub unaltered : (w : refusals.ListRefusal) → listAnswer t out ≡ listed.Refused w → listInto t out ≡ out
 
 -- the writers, of any bytes, and the reader of hex data into a lent slice: where they do not write all, they write nothing
 pub record WritesAllOrNothing (d : List ℕ) : Type 0 where

@@ -13,9 +13,9 @@ use Rattle.accepted.specs.Accepted.{tableRight}
 use Rattle.lister.specs.Listed.{listAnswer, listInto}
 use Rattle.process.specs.declared.Reading.{Reading}
 use Rattle.process.specs.declared.State.{State}
-use Rattle.process.specs.Events.{tickEvent, readingEvent, levelEvent}
-use Rattle.receiving.specs.Receiving.{byteEvent}
-use Rattle.starting.specs.Starting.{startEvent, startCounts}
+use Rattle.events.specs.Events.{tickEvent, readingEvent, levelEvent}
+use Rattle.events.specs.Receiving.{byteEvent}
+use Rattle.runner.specs.Starting.{startEvent, startCounts}
 use Rattle.runner.specs.Draining.{drained, bufferAfter, countsAfter}
 
 -- two outcomes that meet a statement are equal

@@ -11,15 +11,15 @@ use Rattle.process.specs.declared.State.{State}
 use Rattle.process.specs.declared.Received.the-variants as received
 use Rattle.process.specs.declared.Copies.{Copies}
 use Rattle.process.specs.Waiting.{byteTaken}
-use Rattle.process.specs.Events.{busy}
-use Rattle.receiving.specs.Receiving.{rangesRight, byteEvent}
+use Rattle.process.specs.State.{busy}
+use Rattle.events.specs.Receiving.{rangesRight, byteEvent}
 use Rattle.statement.specs.Moving.{moved}
-use Rattle.outcome.specs.declared.Outcome.{Outcome}
-use Rattle.outcome.specs.declared.Outcome.the-variants.{Quiet, Sent, Recorded, Rts, Fchange, Pause, Resume, Plain, Refused}
-use Rattle.runner.specs.Draining.{lowest, nobody, turn, does, drained, bufferAfter}
+use Rattle.statement.specs.declared.outcome.Outcome.{Outcome}
+use Rattle.statement.specs.declared.outcome.Outcome.the-variants.{Quiet, Sent, Recorded, Rts, Fchange, Pause, Resume, Plain, Refused}
+use Rattle.runner.specs.Draining.{lowest, nobody, turnOf, does, drained, bufferAfter}
 use Rattle.runner.specs.Calls as calls
 use Rattle.runner.specs.Calls.{Box, drain, Reply, event, outcome, Called}
-use Rattle.bounded.specs.Replies.{called, took}
+use Rattle.bounded.specs.Replies.{called, wasTaken}
 
 -- ---- "It counts for waits in every case"
 
@@ -37,8 +37,8 @@ pub record CountsAlways (pool : List ℕ) (h : Heads) (s : State) (b : ℕ) : Ty
 
 -- "An event is taken only when no process is ready", and one that is not taken alters nothing
 pub record TakenWhenQuiet (b : Box) (r : Called) : Type 0 where
-  pub only : took (r .reply) ≡ true → busy (b .state) ≡ false
-  pub unaltered : took (r .reply) ≡ false → r .box ≡ b
+  pub only : wasTaken (r .reply) ≡ true → busy (b .state) ≡ false
+  pub unaltered : wasTaken (r .reply) ≡ false → r .box ≡ b
 
 -- "A drain does one statement of the lowest-numbered ready process": it leaves every other process as it was; what it does is one statement of that
 -- process; and where it does none it alters nothing
@@ -46,7 +46,7 @@ pub record OneStatement (t : Table) (b : Box) (room : ℕ) : Type 0 where
   pub others : (i : ℕ) → (i ≡ lowest (b .state .processes) → ⊥)
       → getD (called t (drain room) b .box .state .processes) i nobody ≡ getD (b .state .processes) i nobody
   pub one : does (t .cells) (b .state) room ≡ true
-      → getD (called t (drain room) b .box .state .processes) (lowest (b .state .processes)) nobody ≡ moved (t .cells) (b .state .levels) (turn (b .state)) .process
+      → getD (called t (drain room) b .box .state .processes) (lowest (b .state .processes)) nobody ≡ moved (t .cells) (b .state .levels) (turnOf (b .state)) .process
   pub ready : does (t .cells) (b .state) room ≡ true → busy (b .state) ≡ true
   pub none : does (t .cells) (b .state) room ≡ false → called t (drain room) b .box ≡ b
 
@@ -70,7 +70,7 @@ toldBytes Resume = 0
 toldBytes Plain = 0
 toldBytes (Refused r) = 0
 
--- "Success writes only the bytes it reports": those of the reply stand at the front of the lent buffer, the outcome tells how many, and behind them the
+-- "Success writes only the bytes it reports": those of the reply stand at the front of the lent buffer, the outcome tells how many, and after them the
 -- buffer is as it was
 pub record Wrote (t : Table) (b : Box) (out : List ℕ) (bytes after : List ℕ) : Type 0 where
   pub told : toldBytes (drained (t .cells) (t .pool) (b .state) (b .counts) (length out) .outcome) ≡ length bytes

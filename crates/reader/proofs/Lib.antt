@@ -5,3 +5,4 @@ pub mod Same
 pub mod Digits
 pub mod Solid
 pub mod Placing
+pub mod Each

@@ -18,8 +18,8 @@ digitOf b =
     (cond (ltb b 97) 16
     (cond (ltb b 103) (b - 87) 16)))))
 
--- every byte passes a test
-abbrev pub all : (ℕ → Bool) → List ℕ → Bool
+-- every byte, or any other element, passes a test
+abbrev pub all : {A : Type 0} → (A → Bool) → List A → Bool
 all p [] = true
 all p (b ∷ l) = p b && all p l
 

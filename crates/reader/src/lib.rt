@@ -4,6 +4,7 @@ ghost use mathlib.Core.Path.{_≡_};
 ghost use lib.Dec.{leb};
 
 pub mod bytes;
+pub mod widths;
 
 // Whether `need` bytes fit from `at` on into `len`.
 pub fn has_room(len: usize, at: usize, need: usize) -> bool

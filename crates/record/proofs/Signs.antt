@@ -12,20 +12,20 @@ use borrow.Author.Tests.{eq-eqb, ne-eqb}
 use Rattle.writer.specs.Put.{decimal, twoDigits}
 use Rattle.writer.proofs.Decimals.{decimal-few}
 use Rattle.process.specs.declared.Reading.{Reading}
-use Rattle.record.specs.declared.Shown.{Shown}
-use Rattle.record.specs.declared.Shown.the-variants.{Of, Nothing}
+use Rattle.record.specs.declared.DateSign.{DateSign}
+use Rattle.record.specs.declared.DateSign.the-variants.{Of, Nothing}
 use Rattle.record.specs.Logging.{signText, writtenOut}
-use Rattle.record.specs.Pieces.{shownBy, plainSign, shownText, piece, begins}
+use Rattle.record.specs.inside.Signs.{dateOf, plainSign, dateText, piece, beginsSign}
 
 -- ---- the text of a sign
 
-shown-case : (x n : ℕ) (t : Bool) (s : Shown) {l : List ℕ} → l ≡ shownText x s → cond t (twoDigits n) l ≡ shownText x (cond t (Of n) s)
-unfolding shownText
+shown-case : (x n : ℕ) (t : Bool) (s : DateSign) {l : List ℕ} → l ≡ dateText x s → cond t (twoDigits n) l ≡ dateText x (cond t (Of n) s)
+unfolding dateText
 shown-case x n true s e = refl
 shown-case x n false s e = e
 
-plain-case : (b : ℕ) (t u : Bool) → cond t (13 ∷ []) (cond u (10 ∷ []) (b ∷ [])) ≡ shownText (cond t 13 (cond u 10 b)) Nothing
-unfolding shownText
+plain-case : (b : ℕ) (t u : Bool) → cond t (13 ∷ []) (cond u (10 ∷ []) (b ∷ [])) ≡ dateText (cond t 13 (cond u 10 b)) Nothing
+unfolding dateText
 plain-case b true u = refl
 plain-case b false true = refl
 plain-case b false false = refl
@@ -39,8 +39,8 @@ module _ (r : Reading) (count b : ℕ) where
   unfolding signText
   sign-count e = rw (eq-eqb b 99 e)
 
-  sign-shown : (b ≡ 99 → ⊥) → signText r count b ≡ shownText (plainSign b) (shownBy r b)
-  unfolding signText shownBy plainSign
+  sign-shown : (b ≡ 99 → ⊥) → signText r count b ≡ dateText (plainSign b) (dateOf r b)
+  unfolding signText dateOf plainSign
   sign-shown h =
       let x : ℕ = cond (eqb b 114) 13 (cond (eqb b 110) 10 b) in
       rw (ne-eqb b 99 h)
@@ -50,13 +50,13 @@ module _ (r : Reading) (count b : ℕ) where
       (shown-case x (r .hour) (eqb b 104) _
       (shown-case x (r .minute) (eqb b 109) _ (shown-case x (r .second) (eqb b 115) _ (plain-case b (eqb b 114) (eqb b 110))))))))
 
-  pub sign-unit : (b ≡ 99 → ⊥) → {s : Shown} {n : ℕ} → s ≡ shownBy r b → s ≡ Of n → twoDigits n ≡ signText r count b
-  unfolding shownText
-  sign-unit h e f = sym (sign-shown h ∙ ap (shownText (plainSign b)) (sym e ∙ f))
+  pub sign-unit : (b ≡ 99 → ⊥) → {s : DateSign} {n : ℕ} → s ≡ dateOf r b → s ≡ Of n → twoDigits n ≡ signText r count b
+  unfolding dateText
+  sign-unit h e f = sym (sign-shown h ∙ ap (dateText (plainSign b)) (sym e ∙ f))
 
-  pub sign-plain : (b ≡ 99 → ⊥) → {s : Shown} {x : ℕ} → s ≡ shownBy r b → s ≡ Nothing → x ≡ plainSign b → x ∷ [] ≡ signText r count b
-  unfolding shownText
-  sign-plain h {x = x} e f g = ap (λ (y : ℕ). y ∷ []) g ∙ sym (sign-shown h ∙ ap (shownText (plainSign b)) (sym e ∙ f))
+  pub sign-plain : (b ≡ 99 → ⊥) → {s : DateSign} {x : ℕ} → s ≡ dateOf r b → s ≡ Nothing → x ≡ plainSign b → x ∷ [] ≡ signText r count b
+  unfolding dateText
+  sign-plain h {x = x} e f g = ap (λ (y : ℕ). y ∷ []) g ∙ sym (sign-shown h ∙ ap (dateText (plainSign b)) (sym e ∙ f))
 
   -- the longest is a count of ten digits
   pub sign-few : count < 10 ^ 10 → length (signText r count b) ≤ 10
@@ -93,13 +93,13 @@ piece-case r count b l false = refl
 
 -- the text with its signs written out is the pieces one after the other
 pub next-piece : (r : Reading) (count b : ℕ) (l : List ℕ) (signed : Bool)
-    → writtenOut r count (b ∷ l) signed ≡ piece r count signed b ++ writtenOut r count l (begins signed b)
-unfolding writtenOut piece begins
+    → writtenOut r count (b ∷ l) signed ≡ piece r count signed b ++ writtenOut r count l (beginsSign signed b)
+unfolding writtenOut piece beginsSign
 next-piece r count b l true = refl
 next-piece r count b l false = piece-case r count b l (eqb b 64)
 
--- the same at a place of the text, `next` being the flag behind it
-pub piece-at : (r : Reading) (count : ℕ) (text : List ℕ) (i : ℕ) (signed : Bool) {next : Bool} → i < length text → next ≡ begins signed (getD text i 0)
+-- the same at a place of the text, `next` being the flag after it
+pub piece-at : (r : Reading) (count : ℕ) (text : List ℕ) (i : ℕ) (signed : Bool) {next : Bool} → i < length text → next ≡ beginsSign signed (getD text i 0)
     → writtenOut r count (drop i text) signed ≡ piece r count signed (getD text i 0) ++ writtenOut r count (drop (i + 1) text) next
 piece-at r count text i signed h e =
     rw e

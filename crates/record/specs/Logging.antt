@@ -11,7 +11,7 @@ use Rattle.writer.specs.declared.Put.the-variants.{Next, NoRoom}
 use Rattle.process.specs.declared.Reading.{Reading}
 
 -- "`@c` shows the count before this record, in decimal with no leading zeros"; "Dates are two digits from the last reading"; `@@ @r
--- @n`; another byte, which no accepted script has behind `@`, stands for itself
+-- @n`; another byte, which no accepted script has after `@`, stands for itself
 unfoldable pub signText : Reading → ℕ → ℕ → List ℕ
 signText r count b =
     cond (eqb b 99) (decimal count)
@@ -31,17 +31,21 @@ writtenOut r count (b ∷ l) true = signText r count b ++ writtenOut r count l f
 writtenOut r count (b ∷ l) false = cond (eqb b 64) (writtenOut r count l true) (b ∷ writtenOut r count l false)
 
 -- "A record is cut after 127 bytes."
+abbrev pub recordLimit : ℕ
+recordLimit = 127
+
+-- the record: what is written out, cut
 unfoldable pub recordOf : Reading → ℕ → List ℕ → List ℕ
-recordOf r count text = take 127 (writtenOut r count text false)
+recordOf r count text = take recordLimit (writtenOut r count text false)
 
 -- "4294967295 is followed by 0"
 unfoldable pub nextCount : ℕ → ℕ
 nextCount n = (n + 1) % 4294967296
 
--- the record put at the start of a lent buffer: the place behind it, or that the buffer has under 127 bytes
+-- the record put at the start of a lent buffer: the place after it, or that the buffer has under 127 bytes
 unfoldable pub recordAnswer : Reading → ℕ → List ℕ → List ℕ → Put
-recordAnswer r count text d = cond (leb 127 (length d)) (Next (length (recordOf r count text))) NoRoom
+recordAnswer r count text d = cond (leb recordLimit (length d)) (Next (length (recordOf r count text))) NoRoom
 
 -- what the buffer then holds: one that is too small is left as it is
 unfoldable pub recordInto : Reading → ℕ → List ℕ → List ℕ → List ℕ
-recordInto r count text d = cond (leb 127 (length d)) (sets d 0 (recordOf r count text)) d
+recordInto r count text d = cond (leb recordLimit (length d)) (sets d 0 (recordOf r count text)) d

@@ -3,8 +3,8 @@ ghost use mathlib.Core.Path.{_≡_};
 ghost use Prim.Native.Nat.{_+_, _-_, _≤_};
 ghost use lib.ListN.{length, take};
 ghost use Rattle.writer.specs.Put.{putAnswer, putInto};
-ghost use Rattle.record.specs.Logging.{signText, recordAnswer, recordInto};
-ghost use Rattle.record.specs.Pieces.{shownBy, plainSign, piece, begins};
+ghost use Rattle.record.specs.Logging.{recordLimit, signText, recordAnswer, recordInto};
+ghost use Rattle.record.specs.inside.Signs.{dateOf, plainSign, piece, beginsSign};
 use process::Reading;
 use writer::Put;
 use writer::put_bytes;
@@ -15,33 +15,33 @@ use writer::put_two_digits;
 pub const RECORD: usize = 127;
 
 // What a sign shows of the last reading: one of its units, or nothing.
-pub enum Shown {
+pub enum DateSign {
     Of(u8),
     Nothing,
 }
 
-fn unit_of(r: Reading, b: u8) -> Shown
-    ensures { λ s. ⌜ s ≡ shownBy r b ⌝ }
+fn unit_of(r: Reading, b: u8) -> DateSign
+    ensures { λ s. ⌜ s ≡ dateOf r b ⌝ }
 {
     if b == 89 {
-        return Shown::Of(r.year);
+        return DateSign::Of(r.year);
     }
     if b == 77 {
-        return Shown::Of(r.month);
+        return DateSign::Of(r.month);
     }
     if b == 68 {
-        return Shown::Of(r.day);
+        return DateSign::Of(r.day);
     }
     if b == 104 {
-        return Shown::Of(r.hour);
+        return DateSign::Of(r.hour);
     }
     if b == 109 {
-        return Shown::Of(r.minute);
+        return DateSign::Of(r.minute);
     }
     if b == 115 {
-        return Shown::Of(r.second);
+        return DateSign::Of(r.second);
     }
-    Shown::Nothing
+    DateSign::Nothing
 }
 
 // `@r` and `@n`, and `@@`: any other byte stands for itself.
@@ -59,25 +59,27 @@ fn plain(b: u8) -> u8
 
 // Writes the text of the sign that b ends.
 fn put_sign(sign: &mut [u8], r: Reading, count: u32, b: u8) -> Put
-    ensures { λ p. ⌜ (p ≡ putAnswer (signText r count b) (now (sign .entry)) 0) × (now (sign .exit) ≡ putInto (signText r count b) (now (sign .entry)) 0) ⌝ }
+    ensures { λ p. ⌜ (p ≡ putAnswer (signText r count b) (now (sign .entry)) 0)
+        × (now (sign .exit) ≡ putInto (signText r count b) (now (sign .entry)) 0) ⌝ }
 {
     if b == 99 {
         return put_decimal(sign, 0, count);
     }
     let unit = unit_of(r, b);
     match unit {
-        Shown::Of(n) => put_two_digits(sign, 0, n),
-        Shown::Nothing => {
+        DateSign::Of(n) => put_two_digits(sign, 0, n),
+        DateSign::Nothing => {
             let one = [plain(b)];
             put_bytes(sign, 0, &one)
         }
     }
 }
 
-// Writes bytes from a place on, as many as stand before 127: the place behind them.
+// Writes bytes from a place on, as many as stand before 127: the place after them.
 fn put_cut(out: &mut [u8], at: usize, bytes: &[u8]) -> usize
-    requires { ⌜ (at ≤ 127) × (127 ≤ length (now out)) ⌝ }
-    ensures { λ r. ⌜ (r ≡ at + length (take (127 - at) (now (bytes .entry)))) × (now (out .exit) ≡ putInto (take (127 - at) (now (bytes .entry))) (now (out .entry)) at) ⌝ }
+    requires { ⌜ (at ≤ recordLimit) × (recordLimit ≤ length (now out)) ⌝ }
+    ensures { λ r. ⌜ (r ≡ at + length (take (recordLimit - at) (now (bytes .entry))))
+        × (now (out .exit) ≡ putInto (take (recordLimit - at) (now (bytes .entry))) (now (out .entry)) at) ⌝ }
 {
     let room = RECORD - at;
     if room < bytes.len() {
@@ -90,8 +92,9 @@ fn put_cut(out: &mut [u8], at: usize, bytes: &[u8]) -> usize
 
 // Writes the text of a sign, cut at 127.
 fn write_sign(out: &mut [u8], at: usize, r: Reading, count: u32, b: u8) -> usize
-    requires { ⌜ (at ≤ 127) × (127 ≤ length (now out)) ⌝ }
-    ensures { λ n. ⌜ (n ≡ at + length (take (127 - at) (signText r count b))) × (now (out .exit) ≡ putInto (take (127 - at) (signText r count b)) (now (out .entry)) at) ⌝ }
+    requires { ⌜ (at ≤ recordLimit) × (recordLimit ≤ length (now out)) ⌝ }
+    ensures { λ n. ⌜ (n ≡ at + length (take (recordLimit - at) (signText r count b)))
+        × (now (out .exit) ≡ putInto (take (recordLimit - at) (signText r count b)) (now (out .entry)) at) ⌝ }
 {
     let mut sign = [0u8; 10];
     let put = put_sign(&mut sign, r, count, b);
@@ -103,8 +106,9 @@ fn write_sign(out: &mut [u8], at: usize, r: Reading, count: u32, b: u8) -> usize
 
 // Writes what a byte of the text adds to the record, cut at 127; `signed` tells that `@` stands before.
 fn write_piece(out: &mut [u8], at: usize, r: Reading, count: u32, signed: bool, b: u8) -> usize
-    requires { ⌜ (at ≤ 127) × (127 ≤ length (now out)) ⌝ }
-    ensures { λ n. ⌜ (n ≡ at + length (take (127 - at) (piece r count signed b))) × (now (out .exit) ≡ putInto (take (127 - at) (piece r count signed b)) (now (out .entry)) at) ⌝ }
+    requires { ⌜ (at ≤ recordLimit) × (recordLimit ≤ length (now out)) ⌝ }
+    ensures { λ n. ⌜ (n ≡ at + length (take (recordLimit - at) (piece r count signed b)))
+        × (now (out .exit) ≡ putInto (take (recordLimit - at) (piece r count signed b)) (now (out .entry)) at) ⌝ }
 {
     if signed {
         return write_sign(out, at, r, count, b);
@@ -117,14 +121,15 @@ fn write_piece(out: &mut [u8], at: usize, r: Reading, count: u32, signed: bool, 
 }
 
 fn begins_sign(signed: bool, b: u8) -> bool
-    ensures { λ s. ⌜ s ≡ begins signed b ⌝ }
+    ensures { λ s. ⌜ s ≡ beginsSign signed b ⌝ }
 {
     if signed { false } else { b == 64 }
 }
 
 // The record of a LOG text, written into a lent buffer; a buffer under 127 bytes is left as it is.
 pub fn write_record(text: &[u8], r: Reading, count: u32, out: &mut [u8]) -> Put
-    ensures { λ p. ⌜ (p ≡ recordAnswer r count (now (text .entry)) (now (out .entry))) × (now (out .exit) ≡ recordInto r count (now (text .entry)) (now (out .entry))) ⌝ }
+    ensures { λ p. ⌜ (p ≡ recordAnswer r count (now (text .entry)) (now (out .entry)))
+        × (now (out .exit) ≡ recordInto r count (now (text .entry)) (now (out .entry))) ⌝ }
 {
     if out.len() < RECORD {
         return Put::NoRoom;

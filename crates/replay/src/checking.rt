@@ -4,18 +4,21 @@ use super::output::first;
 use super::output::say_either;
 use super::output::say_number;
 use super::running;
+use language::LISTING;
 use language::Table;
-use lister::LISTING;
 use lister::Listed;
 use lister::list;
 use words::is_named;
+
+// One byte more than any listing has is enough to know that a file holds another.
+const HELD: usize = LISTING + 1;
 
 // Whether the listing of a table is what a file holds.
 fn listing_agrees(table: Table, file: i32) -> bool {
     let cells = table.cells;
     let pool = table.pool;
     let mut out = [0u8; LISTING];
-    let mut held = [0u8; 13671];
+    let mut held = [0u8; HELD];
     let n = io::read_full(file, &mut held);
     let listed = list(&cells, &pool, table.heads, &mut out);
     match listed {

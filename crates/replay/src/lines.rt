@@ -1,5 +1,8 @@
 // A line at a time from a descriptor.
 
+// The longest line that is read or written: an outcome of 127 bytes has 254 digits.
+pub const LONGEST: usize = 512;
+
 pub enum Line {
     // So many bytes.
     Of(usize),
@@ -64,7 +67,7 @@ fn ended(line: &[u8], n: usize, last: u16) -> Line {
     without_cr(line, n)
 }
 
-// A proved loop has to end, and nothing says that the input does: it ends behind more bytes than any line has.
+// A proved loop has to end, and nothing says that the input does: it ends after more bytes than any line has.
 pub(crate) fn next_line(fd: i32, line: &mut [u8]) -> Line {
     let mut n = 0usize;
     while n < usize::MAX {

@@ -3,6 +3,7 @@
 //   replay --check NAME ..    holds NAME.script against NAME.listing, and its run on NAME.operations against NAME.outcomes
 use compiler::compile;
 use language::Answer;
+use language::TEXT;
 use words::is_named;
 
 mod checking;
@@ -14,9 +15,12 @@ mod running;
 
 use output::say;
 
+// One byte more than a text may have is enough to know that it is too long.
+const ROOM: usize = TEXT + 1;
+
 // The script of a file: what to do with its table.
 fn with_script(script: i32, name: &[u8], is_check: bool) {
-    let mut text = [0u8; 65537];
+    let mut text = [0u8; ROOM];
     let n = io::read_full(script, &mut text);
     let compiled = compile(&text[..n]);
     let answer = compiled.answer;

@@ -11,6 +11,9 @@ use words::is_named;
 use words::trimmed_end;
 use words::word_end;
 
+// The largest SIZE of a drain.
+const MOST: u32 = 65536;
+
 pub enum Operation {
     Drain(usize),
     Byte(u8),
@@ -32,13 +35,13 @@ fn wide(n: u32) -> usize {
     n as usize
 }
 
-// A number read, and the place behind it; where there is none, a place that is in no line.
+// A number read, and the place after it; where there is none, a place that is in no line.
 struct Part {
     value: u8,
     next: usize,
 }
 
-// A number of up to 255 behind blanks.
+// A number of up to 255 after blanks.
 fn next_number(line: &[u8], at: usize) -> Part {
     let read = number(line, after_blanks(line, at), 3, 255);
     match read {
@@ -58,7 +61,7 @@ fn ends(line: &[u8], at: usize) -> bool {
 }
 
 fn drain(line: &[u8], at: usize) -> Operation {
-    let size = number(line, after_blanks(line, at), 5, 65536);
+    let size = number(line, after_blanks(line, at), 5, MOST);
     if let Number::Value(n, end) = size {
         if ends(line, end) {
             return Operation::Drain(wide(n));
@@ -138,7 +141,7 @@ pub(crate) fn is_end(asked: Operation) -> bool {
 
 // The operation of the next line; blanks at its end are ignored.
 pub(crate) fn next_operation(from: i32) -> Operation {
-    let mut line = [0u8; 512];
+    let mut line = [0u8; lines::LONGEST];
     let next = lines::next_line(from, &mut line);
     match next {
         Line::Of(n) => by_name(first(&line, trimmed_end(first(&line, n)))),

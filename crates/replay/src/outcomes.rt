@@ -1,10 +1,10 @@
 // The line that tells an outcome, written into a lent buffer.
-use super::output::behind;
 use super::output::first;
-use outcome::Outcome;
+use super::output::rest_from;
 use process::Received;
-use process::Refusal;
+use process::RunRefusal;
 use process::Taken;
+use statement::outcome::Outcome;
 use words::trimmed_end;
 use writer::Put;
 use writer::put_bytes;
@@ -50,7 +50,7 @@ fn bytes(place: usize, count: usize) -> Said {
     }
 }
 
-fn refused(why: Refusal) -> Said {
+fn refused(why: RunRefusal) -> Said {
     Said {
         place: 160,
         number: why.number(),
@@ -99,7 +99,7 @@ pub(crate) fn received(answer: Received) -> Said {
 fn put_name(text: &mut [u8], place: usize) -> usize {
     let names =
         b"quiet           sent            recorded        rts on          rts off         fchange         pause           resume          plain           took            refused         bad operation   ";
-    let name = first(behind(names, place), 16);
+    let name = first(rest_from(names, place), 16);
     word(text, 0, first(name, trimmed_end(name)))
 }
 
@@ -107,7 +107,7 @@ fn byte_number(n: u8) -> u32 {
     n as u32
 }
 
-// The name, and behind it a refusal's number, or the bytes in hex, if there are any.
+// The name, and after it a refusal's number, or the bytes in hex, if there are any.
 pub(crate) fn write(text: &mut [u8], said: Said, bytes: &[u8]) -> usize {
     let at = put_name(text, said.place);
     let next = word(text, at, b" ");

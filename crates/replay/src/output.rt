@@ -1,6 +1,6 @@
 // What is printed, and parts of a buffer.
-use faults::number;
-use language::Fault;
+use compiler::faults::number;
+use language::TextFault;
 use libc::STDOUT_FILENO;
 
 // The first n of some bytes, or all of them if there are not so many.
@@ -11,8 +11,8 @@ pub(crate) fn first(bytes: &[u8], n: usize) -> &[u8] {
     bytes
 }
 
-// The bytes behind the first n, or all of them if there are not so many.
-pub(crate) fn behind(bytes: &[u8], n: usize) -> &[u8] {
+// The bytes after the first n, or all of them if there are not so many.
+pub(crate) fn rest_from(bytes: &[u8], n: usize) -> &[u8] {
     if n <= bytes.len() {
         return &bytes[n..];
     }
@@ -44,7 +44,7 @@ fn say_word(n: u32) {
     say_number(n as u64);
 }
 
-pub(crate) fn say_refusal(fault: Fault, line: u32) {
+pub(crate) fn say_refusal(fault: TextFault, line: u32) {
     say(b"refused ");
     say_byte(number(fault));
     say(b" at ");

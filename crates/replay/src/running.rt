@@ -9,21 +9,25 @@ use super::outcomes::Said;
 use super::output::first;
 use super::output::say;
 use events::read_clock;
+use events::receiving::receive;
 use events::set_level;
 use events::tick;
+use language::CELL_PLACES;
 use language::Cells;
 use language::Heads;
 use language::Pool;
 use language::Table;
 use process::Event;
 use process::State;
-use process::waits::both;
-use receiving::receive;
+use reader::widths::both;
 use runner::draining::drain;
-use starting::Counts;
-use starting::idle;
-use starting::start;
+use runner::starting::Counts;
+use runner::starting::idle;
+use runner::starting::start;
 use words::is_named;
+
+// The bytes that a drain is lent at most, whatever SIZE says.
+const LENT: usize = 1024;
 
 // The state after an operation, and what is said of it.
 struct Done {
@@ -31,7 +35,7 @@ struct Done {
     said: Said,
 }
 
-// How much of a buffer is lent. There are 1,024 bytes, and no statement writes more than 127.
+// How much of a buffer is lent: no statement writes more than 127.
 fn lent(size: usize, most: usize) -> usize
     ensures { λ r. ⌜ r ≤ most ⌝ }
 {
@@ -59,7 +63,7 @@ fn do_drain<'a>(
     }
 }
 
-fn do_byte(pool: &Pool, heads: Heads, s: State, b: u8, bytes: &mut [u8; 1024]) -> Done {
+fn do_byte(pool: &Pool, heads: Heads, s: State, b: u8, bytes: &mut [u8; LENT]) -> Done {
     bytes[0] = b;
     bytes[1] = b;
     let e = receive(pool, heads, s, b);
@@ -96,7 +100,7 @@ fn operate<'a>(
     s: State,
     counts: &mut Counts,
     asked: Operation,
-    bytes: &mut [u8; 1024],
+    bytes: &mut [u8; LENT],
 ) -> Done {
     match asked {
         Operation::Drain(size) => do_drain(cells, pool, s, counts, size, bytes),
@@ -121,7 +125,7 @@ fn say_differs(text: &[u8]) {
 
 // Holds an outcome against the next line of a file.
 fn is_expected(text: &[u8], expected: i32) -> bool {
-    let mut line = [0u8; 512];
+    let mut line = [0u8; lines::LONGEST];
     let next = lines::next_line(expected, &mut line);
     let Line::Of(n) = next else {
         return false;
@@ -143,8 +147,8 @@ fn tell(text: &[u8], expected: i32) -> bool {
 }
 
 // Says what is said of an operation: whether it was that of a file.
-fn say_outcome(said: Said, bytes: &[u8; 1024], expected: i32) -> bool {
-    let mut text = [0u8; 512];
+fn say_outcome(said: Said, bytes: &[u8; LENT], expected: i32) -> bool {
+    let mut text = [0u8; lines::LONGEST];
     let n = outcomes::write(&mut text, said, bytes);
     tell(first(&text, n), expected)
 }
@@ -160,7 +164,7 @@ fn is_through(expected: i32) -> bool {
     if expected < 0 {
         return true;
     }
-    let mut line = [0u8; 512];
+    let mut line = [0u8; lines::LONGEST];
     let next = lines::next_line(expected, &mut line);
     match next {
         Line::Of(_) => false,
@@ -178,7 +182,7 @@ fn run_all<'a>(
     from: i32,
     expected: i32,
 ) -> Run {
-    let mut bytes = [0u8; 1024];
+    let mut bytes = [0u8; LENT];
     let mut state = s;
     let mut told = 0u64;
     let mut agrees = true;
@@ -205,7 +209,7 @@ pub(crate) fn started(table: Table, from: i32, expected: i32) -> Run {
     let cells = table.cells;
     let pool = table.pool;
     let heads = table.heads;
-    let mut counts = [0u32; 512];
+    let mut counts = [0u32; CELL_PLACES];
     let e = start(&cells, &pool, heads, idle(), &mut counts);
     let state = e.state;
     run_all(&cells, &pool, heads, state, &mut counts, from, expected)

@@ -10,15 +10,15 @@ use borrow.Author.Tests.{lt-ltb, le-ltb}
 use Rattle.language.specs.Limits.{processLimit}
 use Rattle.process.specs.declared.Process.{Process}
 use Rattle.process.specs.declared.State.{State}
-use Rattle.process.specs.declared.Refusal.the-variants.{SmallBuffer, BadTable}
+use Rattle.process.specs.declared.RunRefusal.the-variants.{SmallBuffer, BadTable}
 use Rattle.statement.specs.Moving.{moved}
-use Rattle.outcome.specs.declared.Outcome.{Outcome}
-use Rattle.outcome.specs.declared.Outcome.the-variants.{Quiet, Refused}
-use Rattle.turn.specs.declared.Turn.{Turn}
-use Rattle.turn.specs.Turns.{stays, turned, bufferTurned, countsTurned}
+use Rattle.statement.specs.declared.outcome.Outcome.{Outcome}
+use Rattle.statement.specs.declared.outcome.Outcome.the-variants.{Quiet, Refused}
+use Rattle.runner.specs.declared.turn.Turn.{Turn}
+use Rattle.runner.specs.inside.Turns.{stays, turned, bufferTurned, countsTurned}
 use Rattle.runner.specs.declared.Drained.{Drained}
-use Rattle.runner.specs.Draining.{lowest, nobody, turn, does, writes, stateAfter, unaltered, drained, bufferAfter, countsAfter}
-use Rattle.runner.specs.Parts.{stepped, idled}
+use Rattle.runner.specs.Draining.{lowest, nobody, turnOf, does, writes, stateAfter, unaltered, drained, bufferAfter, countsAfter}
+use Rattle.runner.specs.inside.Draining.{stepped, idled}
 
 pub idle-small : (s : State) (room : ℕ) → room < 128 → unaltered s (Refused SmallBuffer) ≡ idled s room
 unfolding idled
@@ -53,11 +53,11 @@ module _ (cells pool : List ℕ) (s : State) (counts out : List ℕ) where
   after t = record { state = stepped s (lowest (s .processes)) (t .process) (t .paused); outcome = t .outcome }
 
   -- a refusal puts the process back
-  back : (o : Outcome) → after (record { process = turn s; paused = s .paused; outcome = o }) ≡ unaltered s o
+  back : (o : Outcome) → after (record { process = turnOf s; paused = s .paused; outcome = o }) ≡ unaltered s o
   back o = ap (λ (l : List Process). unaltered (record { processes = l; reading = s .reading; levels = s .levels; paused = s .paused }) o) (set-back (s .processes) (lowest (s .processes)) nobody)
 
   by-turn : (found room : Bool) (t : Turn)
-      → after (cond found (cond room t (stays (turn s) (s .paused) SmallBuffer)) (stays (turn s) (s .paused) BadTable))
+      → after (cond found (cond room t (stays (turnOf s) (s .paused) SmallBuffer)) (stays (turnOf s) (s .paused) BadTable))
       ≡ cond found (cond room (after t) (unaltered s (Refused SmallBuffer))) (unaltered s (Refused BadTable))
   by-turn true true t = refl
   by-turn true false t = back (Refused SmallBuffer)
@@ -68,7 +68,7 @@ module _ (cells pool : List ℕ) (s : State) (counts out : List ℕ) where
     turned-low : ltb (lowest (s .processes)) processLimit ≡ true
     turned-low = let k : lowest (s .processes) < processLimit = omega arith in lt-ltb (lowest (s .processes)) processLimit k
 
-    the-turn : p ≡ turn s
+    the-turn : p ≡ turnOf s
     the-turn = is ∙ ap (λ (k : ℕ). getD (s .processes) k nobody) low
 
     pub turn-drains : {t : Turn} {z : State} {x k : List ℕ}
@@ -80,7 +80,7 @@ module _ (cells pool : List ℕ) (s : State) (counts out : List ℕ) where
         let x′ = w .1 ∙ ap (λ (q : Process). bufferTurned cells pool (s .levels) (s .reading) counts q out) the-turn in
         let k′ = w .2 ∙ ap (λ (q : Process). countsTurned cells (s .levels) counts q (length out)) the-turn in
         let z′ = e ∙ ap (λ (n : ℕ). stepped s n (t .process) (t .paused)) low in (
-          ap (λ (y : State). record { state = y; outcome = t .outcome }) z′ ∙ ap after t′ ∙ by-turn (moved cells (s .levels) (turn s) .found) (ltb 127 (length out)) _ ∙ rw turned-low,
+          ap (λ (y : State). record { state = y; outcome = t .outcome }) z′ ∙ ap after t′ ∙ by-turn (moved cells (s .levels) (turnOf s) .found) (ltb 127 (length out)) _ ∙ rw turned-low,
           x′ ∙ rw turned-low,
           k′ ∙ rw turned-low,
         )

@@ -1,2 +1,5 @@
 pub mod Lowest
 pub mod Drains
+pub mod Started
+pub mod Written
+pub mod Turning

@@ -7,13 +7,13 @@ use Rattle.process.specs.declared.Reading.{Reading}
 use Rattle.process.specs.declared.State.{State}
 use Rattle.process.specs.declared.Taken.{Taken}
 use Rattle.process.specs.declared.Received.{Received}
-use Rattle.outcome.specs.declared.Outcome.{Outcome}
+use Rattle.statement.specs.declared.outcome.Outcome.{Outcome}
 use Rattle.process.specs.declared.Event.{Event}
 use Rattle.process.specs.declared.ByteEvent.{ByteEvent}
-use Rattle.process.specs.Events.{tickEvent, readingEvent, levelEvent}
-use Rattle.receiving.specs.Receiving.{byteEvent}
+use Rattle.events.specs.Events.{tickEvent, readingEvent, levelEvent}
+use Rattle.events.specs.Receiving.{byteEvent}
 use Rattle.runner.specs.Draining.{does, writes, drained, countsAfter}
-use Rattle.starting.specs.Starting.{startEvent, startCounts}
+use Rattle.runner.specs.Starting.{startEvent, startCounts}
 
 -- what is handed on from call to call
 pub record Box : Type 0 where

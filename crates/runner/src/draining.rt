@@ -3,34 +3,36 @@ ghost use mathlib.Core.Path.{_≡_};
 ghost use Prim.Native.Nat.{_<_};
 ghost use lib.ListN.{length, getD};
 ghost use Rattle.runner.specs.Draining.{lowest, nobody, drained, bufferAfter, countsAfter};
-ghost use Rattle.runner.specs.Parts.{stepped, idled};
+ghost use Rattle.runner.specs.inside.Draining.{stepped, idled};
+ghost use Rattle.language.specs.Limits.{processPlaces};
 use crate::Drained;
+use crate::starting::Counts;
+use crate::turn::take_turn;
 use language::Cells;
-use language::PROCESSES;
+use language::DRAIN;
+use language::PROCESS_PLACES;
 use language::Pool;
-use outcome::Outcome;
 use process::Process;
-use process::Refusal;
+use process::RunRefusal;
 use process::State;
-use starting::Counts;
-use turn::take_turn;
+use statement::outcome::Outcome;
 
 // The number, from 0, of the first process that is ready; 8 where none is.
-fn lowest_ready(ps: [Process; PROCESSES]) -> usize
+fn lowest_ready(ps: [Process; PROCESS_PLACES]) -> usize
     ensures { λ r. ⌜ r ≡ lowest ps ⌝ }
 {
-    for i in 0..8 {
+    for i in 0..PROCESS_PLACES {
         let p = ps[i];
         if p.is_ready() {
             return i;
         }
     }
-    8
+    PROCESS_PLACES
 }
 
 // A process by its number.
-fn process_of(ps: [Process; PROCESSES], i: usize) -> Process
-    requires { ⌜ i < 8 ⌝ }
+fn process_of(ps: [Process; PROCESS_PLACES], i: usize) -> Process
+    requires { ⌜ i < processPlaces ⌝ }
     ensures { λ r. ⌜ r ≡ getD ps i nobody ⌝ }
 {
     ps[i]
@@ -40,10 +42,10 @@ fn process_of(ps: [Process; PROCESSES], i: usize) -> Process
 fn idle(s: State, room: usize) -> Drained
     ensures { λ r. ⌜ r ≡ idled s room ⌝ }
 {
-    if room < 128 {
+    if room < DRAIN {
         return Drained {
             state: s,
-            outcome: Outcome::Refused(Refusal::SmallBuffer),
+            outcome: Outcome::Refused(RunRefusal::SmallBuffer),
         };
     }
     Drained {
@@ -54,7 +56,7 @@ fn idle(s: State, room: usize) -> Drained
 
 // The state with another process at a place.
 fn step_state(s: State, i: usize, p: Process, paused: bool) -> State
-    requires { ⌜ i < 8 ⌝ }
+    requires { ⌜ i < processPlaces ⌝ }
     ensures { λ r. ⌜ r ≡ stepped s i p paused ⌝ }
 {
     let mut ps = s.processes;
@@ -73,11 +75,16 @@ pub fn drain<'a>(
     counts: &mut Counts,
     out: &mut [u8],
 ) -> Drained
-    ensures { λ r. ⌜ (r ≡ drained (now (cells .entry)) (now (pool .entry)) s (now (counts .entry)) (length (now (out .entry)))) × (now (out .exit) ≡ bufferAfter (now (cells .entry)) (now (pool .entry)) s (now (counts .entry)) (now (out .entry))) × (now (counts .exit) ≡ countsAfter (now (cells .entry)) s (now (counts .entry)) (length (now (out .entry)))) ⌝ }
+    ensures { λ r. ⌜ (r ≡ drained (now (cells .entry)) (now (pool .entry)) s (now (counts .entry))
+        (length (now (out .entry))))
+        × (now (out .exit) ≡ bufferAfter (now (cells .entry)) (now (pool .entry)) s (now (counts .entry))
+        (now (out .entry)))
+        × (now (counts .exit) ≡ countsAfter (now (cells .entry)) s (now (counts .entry)) (length (now (out .entry))))
+        ⌝ }
 {
     let ps = s.processes;
     let i = lowest_ready(ps);
-    if 8 <= i {
+    if PROCESS_PLACES <= i {
         return idle(s, out.len());
     }
     let p = process_of(ps, i);

@@ -1,8 +1,10 @@
-// The runner: the drain, on a lent table, lent counts and a state by value. Start is `starting`'s, the events are `events`' and `receiving`'s.
+// Start and drain, on a lent table, lent counts and a state by value. The events are the crate `events`'s.
 pub mod draining;
+pub mod starting;
+mod turn;
 
-use outcome::Outcome;
 use process::State;
+use statement::outcome::Outcome;
 
 pub struct Drained {
     pub state: State,

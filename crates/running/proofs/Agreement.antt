@@ -12,21 +12,22 @@ use Rattle.language.specs.declared.Compiled.{Compiled}
 use Rattle.language.specs.Draft.{Result, accepted, refused}
 use Rattle.language.specs.Answer.{answered, scriptFrom, compiled}
 use Rattle.accepted.specs.Accepted.{tableRight}
-use Rattle.starting.specs.Starting.{startEvent}
+use Rattle.runner.specs.Starting.{startEvent}
 use Rattle.runner.specs.Calls as calls
 use Rattle.runner.specs.Calls.{Box, Call, start, tick, reading, drain, Reply, startCall}
 use Rattle.bounded.specs.Replies.{Compiles}
-use Rattle.bounded.proofs.Calling.{All, start-all, call-keeps}
+use Rattle.bounded.proofs.Calling.{start-all, call-keeps}
+use Rattle.bounded.proofs.Keeping.{All}
 use Rattle.running.specs.Running as script
 use Rattle.running.specs.Agreement.{RunsScript}
 use Rattle.running.proofs.Starts.{Bears, bears}
-use Rattle.running.proofs.EventsAgree.{boxOf, Stands, Answers, after-stands, start-answers, tick-answers, byte-answers, reading-answers, level-answers}
+use Rattle.running.proofs.EventsAgree.{boxOf, InStep, Answers, after-in-step, start-answers, tick-answers, byte-answers, reading-answers, level-answers}
 use Rattle.running.proofs.DrainsAgree.{drain-answers}
 
 -- ---- every call
 
 module _ (t : Table) (s : Script) (k : ℕ) (a : Bears t s k) where
-  module _ (b : Box) (ps : List script.Process) (f : ℕ → ℕ) (w : Stands t k b ps f) where
+  module _ (b : Box) (ps : List script.Process) (f : ℕ → ℕ) (w : InStep t k b ps f) where
     pub call-answers : (q : Call) → Answers t (calls.called tableRight t q b) (script.called s q (boxOf (b .state) ps))
     call-answers start = start-answers t s k a b (boxOf (b .state) ps)
     call-answers tick = tick-answers t s k a b ps f w
@@ -41,20 +42,20 @@ module _ (t : Table) (s : Script) (k : ℕ) (a : Bears t s k) where
   unfolding calls.called startCall startEvent
   start-bounded b = rw (a .fits .started) (start-all t k (a .fits))
 
-  runs-alike : (qs : List Call) (b : Box) (ps : List script.Process) (f : ℕ → ℕ) → Stands t k b ps f → calls.replies tableRight t b qs ≡ script.replies s (boxOf (b .state) ps) qs
+  runs-alike : (qs : List Call) (b : Box) (ps : List script.Process) (f : ℕ → ℕ) → InStep t k b ps f → calls.replies tableRight t b qs ≡ script.replies s (boxOf (b .state) ps) qs
   unfolding calls.replies script.replies
   runs-alike [] b ps f w = refl
   runs-alike (q ∷ qs) b ps f w =
       let x = call-answers b ps f w q in
       ap₂ (λ (r : Reply) (rs : List Reply). r ∷ rs) (x .reply)
-      (runs-alike qs (calls.called tableRight t q b .box) (x .after) _ (after-stands x (call-keeps t k (a .fits) b f (w .bounded) q .all)) ∙ ap (λ (y : script.Box). script.replies s y qs) (sym (x .box)))
+      (runs-alike qs (calls.called tableRight t q b .box) (x .after) _ (after-in-step x (call-keeps t k (a .fits) b f (w .bounded) q .all)) ∙ ap (λ (y : script.Box). script.replies s y qs) (sym (x .box)))
 
   starts-alike : (b : Box) (y : script.Box) (qs : List Call) → calls.replies tableRight t b (start ∷ qs) ≡ script.replies s y (start ∷ qs)
   unfolding calls.replies script.replies
   starts-alike b y qs =
       let x = start-answers t s k a b y in
       ap₂ (λ (r : Reply) (rs : List Reply). r ∷ rs) (x .reply)
-      (runs-alike qs (calls.called tableRight t start b .box) (x .after) (λ i. 0) (after-stands x (start-bounded b)) ∙ ap (λ (z : script.Box). script.replies s z qs) (sym (x .box)))
+      (runs-alike qs (calls.called tableRight t start b .box) (x .after) (λ i. 0) (after-in-step x (start-bounded b)) ∙ ap (λ (z : script.Box). script.replies s z qs) (sym (x .box)))
 
 -- the script that an accepted text says is that of its table
 said-by : (r : Result) {text : List ℕ} {t : Table} {k : ℕ} → Compiles text t k → scriptFrom text ≡ r → r ≡ accepted (scriptOf t)

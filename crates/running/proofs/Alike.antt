@@ -19,7 +19,7 @@ use Rattle.process.specs.declared.Wait.{Wait}
 use Rattle.process.specs.declared.Wait.the-variants.{Ready, Over, Ticks, Bytes, Data, ClockValue, Signal}
 use Rattle.process.specs.declared.Process.{Process}
 use Rattle.process.specs.Matching.{progress}
-use Rattle.process.specs.Waiting.{readyWait, ready, awake, withWait, tickedWait, awaited, matchedTo, matchedWait, byteWait, unitMatches, matches, readingWait, sameLevel, sets, levelWait}
+use Rattle.process.specs.Waiting.{readyWait, ready, awake, withWait, tickedWait, awaited, matchedTo, matchedWait, byteWait, unitMatches, matches, readingWait, sameLevel, setsLevel, levelWait}
 use Rattle.bounded.proofs.Ahead.{Open, opensOf}
 use Rattle.running.specs.Running as script
 use Rattle.running.specs.Running.{Loop, forNothing, forTicks, forBytes, forData, forClock, forSignal, endsIn, units, ticked, gets, read, levelled, nextIn, nextBy, isStatement, waiting}
@@ -132,7 +132,7 @@ module _ (cells pool : List ℕ) (end : ℕ) (inside : end ≤ length cells) whe
   reading-waits r i (Signal l) v h = rw h
 
   pub level-waits : (n : ℕ) (on : Bool) (i : ℕ) (w : Wait) (v : script.Wait) → Waits pool (to i) w v → Waits pool (to i) (levelWait (level n on) i end w) (levelled n on v)
-  unfolding levelled sets
+  unfolding levelled setsLevel
   level-waits n on i Ready v h = (rw (h .0), h .1)
   level-waits n on i Over v h = (rw (h .0), h .1)
   level-waits n on i (Ticks k) v h = rw h

@@ -12,7 +12,7 @@ use borrow.Author.Tests.{ltb-true, eq-eqb, ne-eqb}
 use Rattle.reader.proofs.Tests.{true-is-false}
 use Rattle.language.specs.Script.{Statement, send, loop, end, waitTime, waitData, waitByte, waitClock, waitSignal, rts, log, fchange, pause, resume, nop, Script}
 use Rattle.process.specs.declared.Reading.{Reading}
-use Rattle.process.specs.Events.{any}
+use Rattle.process.specs.State.{any}
 use Rattle.runner.specs.Calls.{drain, Reply, outcome}
 use Rattle.running.specs.Running.{Process, Box, statement, isStatement, nextIn, nextBy, next, ready, busy, Deed, does, Called, called}
 use Rattle.running.specs.Called.{process, SomeTurn, doing}

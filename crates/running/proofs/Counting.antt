@@ -9,12 +9,13 @@ use lib.ListN.{length}
 use Rattle.reader.proofs.Tests.{true-is-false, by-cases}
 use Rattle.language.specs.Script.{Statement, send, loop, end, waitTime, waitData, waitByte, waitClock, waitSignal, rts, log, fchange, pause, resume, nop, Script}
 use Rattle.running.specs.Joined.{done}
-use Rattle.process.specs.declared.Refusal.the-variants.{SmallBuffer}
-use Rattle.process.specs.Events.{any, readingRight}
-use Rattle.outcome.specs.declared.Outcome.the-variants.{Refused}
+use Rattle.process.specs.declared.RunRefusal.the-variants.{SmallBuffer}
+use Rattle.process.specs.State.{any}
+use Rattle.events.specs.Events.{readingRight}
+use Rattle.statement.specs.declared.outcome.Outcome.the-variants.{Refused}
 use Rattle.record.specs.Logging.{nextCount}
 use Rattle.runner.specs.Calls.{Call, start, tick, byte, reading, level, drain, outcome}
-use Rattle.running.specs.Running.{Loop, Wait, Process, Box, Next, idle, statement, isStatement, next, busy, closed, logged, does, Turn, none, did, later, takes, turn, Called, drained, waiting, begins, started, called}
+use Rattle.running.specs.Running.{Loop, Wait, Process, Box, Next, idle, statement, isStatement, next, busy, closed, logged, does, Turn, none, did, later, takes, turn, Called, drained, waiting, atFirst, started, called}
 use Rattle.running.specs.Called.{boxAfter, isLog, logsNext, logsIn, logs, loggedIn, isStart, process, CountsOwn}
 use Rattle.running.proofs.Drains.{neither, of, after, drained-is}
 
@@ -122,7 +123,7 @@ counted-through s k n (q ∷ qs) b e h =
     omega (arith, o, r)
 
 -- a start counts from 0
-begun : (ps : List (List Statement)) (k n : ℕ) → of k (map begins ps) .counts n ≡ 0
+begun : (ps : List (List Statement)) (k n : ℕ) → of k (map atFirst ps) .counts n ≡ 0
 begun [] k n = refl
 begun (p ∷ ps) zero n = refl
 begun (p ∷ ps) (suc k) n = begun ps k n

@@ -18,9 +18,9 @@ use Rattle.language.specs.Script.{Statement}
 use Rattle.language.specs.Cell.{decoded}
 use Rattle.language.specs.Table.{statementOf}
 use Rattle.accepted.specs.Accepted.{tableRight}
-use Rattle.outcome.specs.Saying.{countedBy}
-use Rattle.runner.specs.Draining.{turn, does, countsAfter}
-use Rattle.starting.specs.Starting.{startCounts}
+use Rattle.statement.specs.Saying.{countedBy}
+use Rattle.runner.specs.Draining.{turnOf, does, countsAfter}
+use Rattle.runner.specs.Starting.{startCounts}
 use Rattle.runner.specs.Calls as calls
 use Rattle.runner.specs.Calls.{Box, Call, start, tick, byte, reading, level, drain, startCall}
 use Rattle.bounded.specs.Replies.{called}
@@ -90,14 +90,14 @@ call-zeros t b e z (byte x) = z
 call-zeros t b e z (reading r) = z
 call-zeros t b e z (level n on) = z
 call-zeros t b e z (drain room) = λ j i.
-    let p = turn (b .state) .place in
+    let p = turnOf (b .state) .place in
     by-cases (λ (l : List ℕ). getD l j 0 ≡ 0) (does (t .cells) (b .state) room) _ _
     (λ u. set-zero (b .counts) p j _ (λ d. counted-zero (t .pool) _ _ (rw d at i) (rw d at (z j i))) (z j i))
     (λ u. z j i)
 
 -- ---- the counts of a process, by its statements
 
--- c counts the LOG statements by the number of statements behind them, as they are done
+-- c counts the LOG statements by the number of statements after them, as they are done
 unfoldable pub countsBy : (ℕ → ℕ) → List Statement → List ℕ
 countsBy c [] = []
 countsBy c (x ∷ xs) = cond (isLog x) (c (length (joinedIn xs))) 0 ∷ countsBy c xs

@@ -55,7 +55,7 @@ module _ (d : List ℕ) where
   one-event (level m is) seen = refl
   one-event (drain room) seen = refl
 
-  -- the bytes of an event, and of those behind it
+  -- the bytes of an event, and of those after it
   bytes-first : (e : Call) (es : List Call) → receivedIn (e ∷ es) ≡ receivedIn (e ∷ []) ++ receivedIn es
   unfolding receivedIn
   bytes-first start es = refl

@@ -8,14 +8,14 @@ use lib.ListN.{length, getD, length-append}
 use borrow.Author.Tests.{ltb-true, lt-ltb}
 use Rattle.reader.proofs.Tests.{true-is-false, by-cases}
 use Rattle.language.specs.Script.{Statement, send, loop, end, waitTime, waitData, waitByte, waitClock, waitSignal, rts, log, fchange, pause, resume, nop, Script}
-use Rattle.process.specs.declared.Refusal.the-variants.{SmallBuffer}
-use Rattle.process.specs.Events.{any}
-use Rattle.outcome.specs.declared.Outcome.the-variants.{Quiet, Refused}
+use Rattle.process.specs.declared.RunRefusal.the-variants.{SmallBuffer}
+use Rattle.process.specs.State.{any}
+use Rattle.statement.specs.declared.outcome.Outcome.the-variants.{Quiet, Refused}
 use Rattle.runner.specs.Calls as calls
 use Rattle.runner.specs.Calls.{drain, outcome}
 use Rattle.bounded.specs.Replies.{did}
 use Rattle.running.specs.Running as script
-use Rattle.running.specs.Running.{Process, Box, Next, idle, statement, isStatement, next, ready, busy, does, Turn, none, later, takes, turn, Called, drained, begins, called}
+use Rattle.running.specs.Running.{Process, Box, Next, idle, statement, isStatement, next, ready, busy, does, Turn, none, later, takes, turn, Called, drained, atFirst, called}
 use Rattle.running.specs.Neighbours.{didOne}
 use Rattle.running.specs.Called.{HasTurn, SomeTurn, doing, OneStatement, pausedSince}
 
@@ -24,7 +24,7 @@ pub neither : (u v : Bool) → (u || v) ≡ false → (u ≡ false) × (v ≡ fa
 neither true v e = true-is-false e
 neither false v e = (refl, e)
 
--- a process that is not ready leaves the turn to those behind it
+-- a process that is not ready leaves the turn to those after it
 not-ready : (n : Next) → isStatement n ≡ false → n ≡ idle
 unfolding isStatement
 not-ready idle e = refl
@@ -135,7 +135,7 @@ module _ (s : Script) (b : Box) (room : ℕ) (wide : 127 < room) where
 
 -- process k of some
 abbrev pub of : ℕ → List Process → Process
-of k ps = getD ps k (begins [])
+of k ps = getD ps k (atFirst [])
 
 -- those after a turn
 abbrev pub after : List Process → Turn → List Process

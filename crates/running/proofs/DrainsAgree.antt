@@ -12,26 +12,26 @@ use Rattle.language.specs.declared.Table.{Table}
 use Rattle.language.specs.declared.Cell.{Cell}
 use Rattle.language.specs.Limits.{linesLimit, processLimit}
 use Rattle.language.specs.Script.{Statement, Script}
-use Rattle.stretch.specs.Scan.{marksTo}
+use Rattle.stretch.specs.Marks.{marksTo}
 use Rattle.stretch.proofs.Marking.{marks-length}
 use Rattle.accepted.specs.Accepted.{tableRight}
 use Rattle.process.specs.declared.Wait.{Wait}
 use Rattle.process.specs.declared.Wait.the-variants.{Ready, Over, Ticks, Bytes, Data, ClockValue, Signal}
 use Rattle.process.specs.declared.Process.{Process}
 use Rattle.process.specs.declared.State.{State}
-use Rattle.process.specs.declared.Refusal.the-variants.{SmallBuffer}
+use Rattle.process.specs.declared.RunRefusal.the-variants.{SmallBuffer}
 use Rattle.process.specs.Waiting.{readyWait, ready}
-use Rattle.loops.specs.declared.Moved.{Moved}
+use Rattle.statement.specs.declared.loops.Moved.{Moved}
 use Rattle.statement.specs.Moving.{movedBy, moved, cellAt}
-use Rattle.outcome.specs.declared.Outcome.the-variants.{Quiet, Refused}
-use Rattle.outcome.specs.Saying.{outcomeOf, pausedBy, countedBy}
-use Rattle.turn.specs.Writing.{bytesOf}
+use Rattle.statement.specs.declared.outcome.Outcome.the-variants.{Quiet, Refused}
+use Rattle.statement.specs.Saying.{outcomeOf, pausedBy, countedBy}
+use Rattle.runner.specs.Writing.{writesFor}
 use Rattle.runner.specs.Draining as draining
 use Rattle.runner.specs.Draining.{lowest, nobody, writes, stateAfter, unaltered, drained, countsAfter}
 use Rattle.runner.specs.Calls as calls
 use Rattle.runner.specs.Calls.{Box, reading, drain, outcome, boxed}
 use Rattle.bounded.specs.Demand3.{firstOf, endOf}
-use Rattle.bounded.proofs.Stands.{Held}
+use Rattle.bounded.proofs.Held.{Held}
 use Rattle.bounded.proofs.Opens.{opens-length}
 use Rattle.bounded.proofs.Moves.{Own, moved-good}
 use Rattle.bounded.proofs.Several.{lowest-ready}
@@ -42,7 +42,7 @@ use Rattle.running.proofs.Alike.{Waits}
 use Rattle.running.proofs.StatementsAgree.{Does, by-cell}
 use Rattle.running.proofs.Turns.{Alike, One, Turned, quiet, one, turned}
 use Rattle.running.proofs.Starts.{Bears, counts-apart}
-use Rattle.running.proofs.EventsAgree.{boxOf, Stands, Answers}
+use Rattle.running.proofs.EventsAgree.{boxOf, InStep, Answers}
 
 -- a process that is ready waits for nothing
 ready-waits : (pool : List ℕ) (ss : List Statement) (w : Wait) (v : script.Wait) → Waits pool ss w v → readyWait w ≡ true → v ≡ forNothing
@@ -54,7 +54,7 @@ ready-waits pool ss (Data m) v h e = true-is-false (sym e)
 ready-waits pool ss (ClockValue c) v h e = true-is-false (sym e)
 ready-waits pool ss (Signal l) v h e = true-is-false (sym e)
 
-module _ (t : Table) (s : Script) (k : ℕ) (a : Bears t s k) (b : Box) (qs : List script.Process) (f : ℕ → ℕ) (w : Stands t k b qs f) where
+module _ (t : Table) (s : Script) (k : ℕ) (a : Bears t s k) (b : Box) (qs : List script.Process) (f : ℕ → ℕ) (w : InStep t k b qs f) where
   abbrev bx : script.Box
   bx = boxOf (b .state) qs
 
@@ -111,7 +111,7 @@ module _ (t : Table) (s : Script) (k : ℕ) (a : Bears t s k) (b : Box) (qs : Li
         by-cell (t .cells) (t .pool) (firstOf (t .heads) low) (endOf (t .heads) low) own (a .long) (b .counts) bx p (o .process) related (held .fine .sits .low) live
         (omega (arith, opens-length (p .depth) (p .left) (p .back), held .fine .sits .few)) (held .left) (held .back) (w .long) c refl (rw moved-is at is-found)
 
-    next-is : next (o .process) ≡ statement (doing .statement) (doing .behind)
+    next-is : next (o .process) ≡ statement (doing .statement) (doing .coming)
     unfolding nextBy nextIn
     next-is =
         ap₂ nextBy (ready-waits (t .pool) (from (t .cells) (t .pool) (endOf (t .heads) low) (p .place)) (p .wait) (o .process .wait) (related .wait) is-ready)
@@ -119,10 +119,10 @@ module _ (t : Table) (s : Script) (k : ℕ) (a : Bears t s k) (b : Box) (qs : Li
 
     -- what was written, what the script does, and the counts and the state after it
     abbrev wrote : List ℕ
-    wrote = bytesOf (t .pool) (b .state .reading) (getD (b .counts) (p .place) 0) c
+    wrote = writesFor (t .pool) (b .state .reading) (getD (b .counts) (p .place) 0) c
 
     abbrev d : Deed
-    d = does bx (o .process) (doing .behind) (doing .statement)
+    d = does bx (o .process) (doing .coming) (doing .statement)
 
     abbrev counted : List ℕ
     counted = set (b .counts) (p .place) (countedBy (getD (b .counts) (p .place) 0) c)
@@ -170,7 +170,7 @@ module _ (t : Table) (s : Script) (k : ℕ) (a : Bears t s k) (b : Box) (qs : Li
 
     one-answers : (room : ℕ) → Drains room
     unfolding calls.called drained draining.does countsAfter stateAfter writes script.called script.drained
-    one-answers room = rw (e, lt-ltb low processLimit there, is-found, o .turns (doing .statement) (doing .behind) next-is) (by-room (ltb 127 room))
+    one-answers room = rw (e, lt-ltb low processLimit there, is-found, o .turns (doing .statement) (doing .coming) next-is) (by-room (ltb 127 room))
 
   pub drain-answers : (room : ℕ) → Drains room
   drain-answers room = go (turned t (b .counts) bx 0 (b .state .processes) qs (w .alike))

@@ -19,23 +19,24 @@ use Rattle.language.specs.Table.{settingsOf, scriptOf}
 use Rattle.accepted.specs.Accepted.{tableRight}
 use Rattle.process.specs.declared.Reading.{Reading}
 use Rattle.process.specs.declared.State.{State}
-use Rattle.process.specs.declared.Refusal.{Refusal}
-use Rattle.process.specs.declared.Refusal.the-variants.{Busy, BadReading, NoSuchSignal}
+use Rattle.process.specs.declared.RunRefusal.{RunRefusal}
+use Rattle.process.specs.declared.RunRefusal.the-variants.{Busy, BadReading, NoSuchSignal}
 use Rattle.process.specs.declared.Received.the-variants as received
 use Rattle.process.specs.declared.Event.{Event}
 use Rattle.process.specs.Waiting.{ticked, tickedWait, byteTaken, byteWait, readingTaken, readingWait, levelTaken, levelWait}
-use Rattle.process.specs.Events as events
-use Rattle.process.specs.Events.{busy, took, withProcesses, tickEvent, readingRight, readingEvent, levelEvent}
-use Rattle.recording.specs.Recording.{oneOf, copies}
-use Rattle.receiving.specs.Receiving.{rangesRight, answeredWith, byteEvent}
-use Rattle.starting.specs.Starting.{startState, startEvent, startCounts}
+use Rattle.events.specs.Events as events
+use Rattle.process.specs.State.{busy, withProcesses}
+use Rattle.events.specs.Events.{took, tickEvent, readingRight, readingEvent, levelEvent}
+use Rattle.events.specs.Recording.{oneOf, timesRecorded}
+use Rattle.events.specs.Receiving.{rangesRight, answeredWith, byteEvent}
+use Rattle.runner.specs.Starting.{startState, startEvent, startCounts}
 use Rattle.runner.specs.Calls as calls
 use Rattle.runner.specs.Calls.{Box, start, tick, reading, Called, answeredBy, receivedBy, startCall}
 use Rattle.bounded.specs.Demand3.{endOf}
 use Rattle.bounded.proofs.Several.{every-right}
-use Rattle.bounded.proofs.Calling.{All}
+use Rattle.bounded.proofs.Keeping.{All}
 use Rattle.running.specs.Running as script
-use Rattle.running.specs.Running.{times, timesBy, started}
+use Rattle.running.specs.Running.{timesBy, started}
 use Rattle.running.proofs.Alike.{tick-waits, byte-waits, reading-waits, level-waits}
 use Rattle.running.proofs.Turns.{Alikes, busy-alike, event-alike}
 use Rattle.running.proofs.Starts.{Bears, start-alike}
@@ -45,7 +46,7 @@ abbrev pub boxOf : State → List script.Process → script.Box
 boxOf s qs = record { processes = qs; reading = s .reading; levels = s .levels; paused = s .paused }
 
 -- a box of the runner stands for the script's box with these processes; f being the statements that each has done since the last start or accepted event
-pub record Stands (t : Table) (k : ℕ) (b : Box) (qs : List script.Process) (f : ℕ → ℕ) : Type 0 where
+pub record InStep (t : Table) (k : ℕ) (b : Box) (qs : List script.Process) (f : ℕ → ℕ) : Type 0 where
   pub bounded : All t k (b .state) f
   pub alike : Alikes t (b .counts) 0 (b .state .processes) qs
   pub long : length (b .counts) ≡ linesLimit
@@ -59,13 +60,13 @@ pub record Answers (t : Table) (r : Called) (x : script.Called) : Type 0 where
   pub long : length (r .box .counts) ≡ linesLimit
 
 -- so the box stands for the script's after it
-pub after-stands : {t : Table} {k : ℕ} {r : Called} {x : script.Called} {f : ℕ → ℕ} (w : Answers t r x) → All t k (r .box .state) f → Stands t k (r .box) (w .after) f
-after-stands w h = record { bounded = h; alike = w .alike; long = w .long }
+pub after-in-step : {t : Table} {k : ℕ} {r : Called} {x : script.Called} {f : ℕ → ℕ} (w : Answers t r x) → All t k (r .box .state) f → InStep t k (r .box) (w .after) f
+after-in-step w h = record { bounded = h; alike = w .alike; long = w .long }
 
 -- the settings of the heads
-copies-times : (h : Heads) (paused : Bool) (x : ℕ) → copies h paused x ≡ times (settingsOf h) paused x
-unfolding copies times settingsOf
-copies-times h paused x = ap (cond (paused || oneOf (take (h .omits) (h .omit)) x) 0) (go (h .encodes))
+recorded-same : (h : Heads) (paused : Bool) (x : ℕ) → timesRecorded h paused x ≡ script.timesRecorded (settingsOf h) paused x
+unfolding timesRecorded script.timesRecorded settingsOf
+recorded-same h paused x = ap (cond (paused || oneOf (take (h .omits) (h .omit)) x) 0) (go (h .encodes))
   where
     go : (u : Bool) → cond u (cond (eqb (h .encode) x) 2 1) 1 ≡ timesBy (cond u (scripts.byte (h .encode)) unset) x
     go true = unfold timesBy in refl
@@ -76,13 +77,13 @@ module _ (t : Table) (s : Script) (k : ℕ) (a : Bears t s k) (b : Box) where
   unfolding calls.called startCall startEvent startCounts script.called startState started
   start-answers y = rw (a .fits .started) (record {
     reply = refl;
-    after = map script.begins (done (s .body));
+    after = map script.atFirst (done (s .body));
     box = refl;
     alike = start-alike t s k a;
     long = length-replicate {A = ℕ} linesLimit 0;
   })
 
-module _ (t : Table) (s : Script) (k : ℕ) (a : Bears t s k) (b : Box) (qs : List script.Process) (f : ℕ → ℕ) (w : Stands t k b qs f) where
+module _ (t : Table) (s : Script) (k : ℕ) (a : Bears t s k) (b : Box) (qs : List script.Process) (f : ℕ → ℕ) (w : InStep t k b qs f) where
   abbrev bx : script.Box
   bx = boxOf (b .state) qs
 
@@ -92,7 +93,7 @@ module _ (t : Table) (s : Script) (k : ℕ) (a : Bears t s k) (b : Box) (qs : Li
 
   -- ---- events
 
-  stays : (r : Refusal) → Answers t (answeredBy (b .counts) (events.refused (b .state) r)) (script.refuses bx r)
+  stays : (r : RunRefusal) → Answers t (answeredBy (b .counts) (events.refused (b .state) r)) (script.refuses bx r)
   stays r = record { reply = refl; after = qs; box = refl; alike = w .alike; long = w .long }
 
   takes : (e : State) (rs : List script.Process) → Alikes t (b .counts) 0 (e .processes) rs → Answers t (answeredBy (b .counts) (took e)) (script.takesEvent (boxOf e rs))
@@ -144,10 +145,10 @@ module _ (t : Table) (s : Script) (k : ℕ) (a : Bears t s k) (b : Box) (qs : Li
   unfolding calls.called script.called byteEvent
   byte-answers x = rw (ranges-right, busy-same) (go (script.busy bx))
     where
-      took-byte : Answers t (receivedBy (b .counts) (answeredWith (withProcesses (b .state) (map (byteTaken (t .pool) x) (b .state .processes))) (received.Took (record { count = copies (t .heads) (b .state .paused) x }))))
-          (record { box = script.having (script.allWaiting (script.gets x) bx) bx; reply = calls.received (received.Took (record { count = times (s .settings) (b .state .paused) x })) })
+      took-byte : Answers t (receivedBy (b .counts) (answeredWith (withProcesses (b .state) (map (byteTaken (t .pool) x) (b .state .processes))) (received.Took (record { count = timesRecorded (t .heads) (b .state .paused) x }))))
+          (record { box = script.having (script.allWaiting (script.gets x) bx) bx; reply = calls.received (received.Took (record { count = script.timesRecorded (s .settings) (b .state .paused) x })) })
       took-byte = record {
-        reply = ap (λ (n : ℕ). calls.received (received.Took (record { count = n }))) (copies-times (t .heads) (b .state .paused) x ∙ ap (λ (g : Settings). times g (b .state .paused) x) settings-same);
+        reply = ap (λ (n : ℕ). calls.received (received.Took (record { count = n }))) (recorded-same (t .heads) (b .state .paused) x ∙ ap (λ (g : Settings). script.timesRecorded g (b .state .paused) x) settings-same);
         after = map (script.waiting (script.gets x)) qs;
         box = refl;
         alike = event-alike t (b .counts) (byteWait (t .pool) x) (script.gets x) (λ i e. refl)
@@ -157,8 +158,8 @@ module _ (t : Table) (s : Script) (k : ℕ) (a : Bears t s k) (b : Box) (qs : Li
 
       go : (u : Bool) → Answers t
           (receivedBy (b .counts) (cond u (answeredWith (b .state) (received.Refused Busy))
-          (answeredWith (withProcesses (b .state) (map (byteTaken (t .pool) x) (b .state .processes))) (received.Took (record { count = copies (t .heads) (b .state .paused) x })))))
+          (answeredWith (withProcesses (b .state) (map (byteTaken (t .pool) x) (b .state .processes))) (received.Took (record { count = timesRecorded (t .heads) (b .state .paused) x })))))
           (cond u (record { box = bx; reply = calls.received (received.Refused Busy) })
-          (record { box = script.having (script.allWaiting (script.gets x) bx) bx; reply = calls.received (received.Took (record { count = times (s .settings) (b .state .paused) x })) }))
+          (record { box = script.having (script.allWaiting (script.gets x) bx) bx; reply = calls.received (received.Took (record { count = script.timesRecorded (s .settings) (b .state .paused) x })) }))
       go true = record { reply = refl; after = qs; box = refl; alike = w .alike; long = w .long }
       go false = took-byte

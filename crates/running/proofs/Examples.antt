@@ -10,11 +10,11 @@ use Rattle.language.specs.Answer.{scriptFrom}
 use Rattle.running.specs.Joined as joined
 use Rattle.language.proofs.Opened.{printed}
 use Rattle.process.specs.declared.Taken.the-variants as taken
-use Rattle.recording.specs.Recording as recording
+use Rattle.events.specs.Recording as recording
 use Rattle.record.specs.Logging as logging
 use Rattle.runner.specs.Calls.{Call, tick, byte, drain, Reply, event}
 use Rattle.bounded.specs.Replies.{once, quiet, plain, sent, recorded}
-use Rattle.running.specs.Running.{Box, endsIn, ticked, gets, unlessZero, closed, logged, does, nextIn, nextBy, isStatement, busy, later, takes, turn, drained, timesBy, times, started, called, replies}
+use Rattle.running.specs.Running.{Box, endsIn, ticked, gets, unlessZero, closed, logged, does, nextIn, nextBy, isStatement, busy, later, takes, turn, drained, timesBy, timesRecorded, started, called, replies}
 use Rattle.running.specs.Agreement.{repliesOf}
 
 -- ---- joined waits
@@ -77,5 +77,5 @@ outcomes =
     (recorded (ascii "north west 0 00:00:00" ++ (13 ∷ 10 ∷ [])) ∷ plain ∷ quiet ∷ event taken.Took ∷ quiet ∷ []))))))
 
 norths : (b : Box) → repliesOf (scriptFrom text) b operations ≡ outcomes
-unfolding text operations outcomes scriptFrom printed joined.joinedIn joined.joinTo joined.joinTwo joined.awaits joined.done started called replies busy does turn takes later drained nextIn nextBy isStatement closed logged logging.signText logging.writtenOut logging.recordOf logging.nextCount endsIn gets times timesBy recording.oneOf ticked unlessZero
+unfolding text operations outcomes scriptFrom printed joined.joinedIn joined.joinTo joined.joinTwo joined.awaits joined.done started called replies busy does turn takes later drained nextIn nextBy isStatement closed logged logging.signText logging.writtenOut logging.recordOf logging.nextCount endsIn gets timesRecorded timesBy recording.oneOf ticked unlessZero
 norths b = refl

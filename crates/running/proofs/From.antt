@@ -17,9 +17,9 @@ use Rattle.language.specs.Script.{Statement, waitData}
 use Rattle.running.specs.Joined.{Awaits, bytes, nothing, awaits, joinTwo, joinTo, joinedIn}
 use Rattle.language.specs.Cell.{decoded}
 use Rattle.language.specs.Table.{dataAt, statementOf}
-use Rattle.cells_fit.specs.Tests as tests
-use Rattle.cells_fit.specs.Tests.{follows, cellFits, wordsFit}
-use Rattle.joining.specs.Joining.{more, bytesIn, neighbours, theirBytes}
+use Rattle.accepted.specs.inside.Cells as tests
+use Rattle.accepted.specs.inside.Cells.{follows, cellFits, wordsFit}
+use Rattle.statement.specs.Joining.{more, awaitedBytes, neighbours, theirBytes}
 use Rattle.running.proofs.Joins.{joins-none}
 
 -- ---- joined statements
@@ -84,17 +84,17 @@ module _ (pool : List ℕ) where
   -- a wait for data in front of words that fit is joined with its neighbours: their bytes follow each other in the pool
   joins-data : (ws : List ℕ) (at : ℕ) (bs : List ℕ) → wordsFit pool at ws ≡ true →
       joinTo (waitData bs) (joinedIn (said ws)) ≡ waitData (bs ++ take (theirBytes ws) (drop at pool)) ∷ joinedIn (said (drop (neighbours ws) ws))
-  unfolding joinedIn joinTo joinTwo awaits statementOf neighbours theirBytes wordsFit cellFits follows tests.bytesIn
+  unfolding joinedIn joinTo joinTwo awaits statementOf neighbours theirBytes wordsFit cellFits follows tests.bytesOfCell
   joins-data [] at bs h = rw append-nil
   joins-data (w ∷ ws) at bs h =
       go (decoded w) refl (kind pool (decoded w)) (both-left (cellFits pool at (decoded w)) _ h) (both-right (cellFits pool at (decoded w)) _ h)
       (λ a c. joins-data ws a c)
     where
-      go : (c : Cell) → decoded w ≡ c → Kind pool c → cellFits pool at c ≡ true → wordsFit pool (at + tests.bytesIn c) ws ≡ true →
+      go : (c : Cell) → decoded w ≡ c → Kind pool c → cellFits pool at c ≡ true → wordsFit pool (at + tests.bytesOfCell c) ws ≡ true →
           ((a : ℕ) (cs : List ℕ) → wordsFit pool a ws ≡ true →
           joinTo (waitData cs) (joinedIn (said ws)) ≡ waitData (cs ++ take (theirBytes ws) (drop a pool)) ∷ joinedIn (said (drop (neighbours ws) ws))) →
           joinTo (waitData bs) (joinTo (statementOf pool c) (joinedIn (said ws)))
-          ≡ waitData (bs ++ take (more c (bytesIn c + theirBytes ws) 0) (drop at pool)) ∷ joinedIn (said (drop (more c (neighbours ws + 1) 0) (w ∷ ws)))
+          ≡ waitData (bs ++ take (more c (awaitedBytes c + theirBytes ws) 0) (drop at pool)) ∷ joinedIn (said (drop (more c (neighbours ws + 1) 0) (w ∷ ws)))
       go _ e (awaiting s) f g ih =
           let at-s : s .from ≡ at = eqb-true (s .from) at (both-left (follows at s) _ f) in
           let together : dataAt pool s ++ take (theirBytes ws) (drop (at + s .count) pool) ≡ take (s .count + theirBytes ws) (drop at pool) =
@@ -103,7 +103,7 @@ module _ (pool : List ℕ) where
           ap (joinTo (waitData bs)) (ih (at + s .count) (dataAt pool s) g)
           ∙ rw (together, add-one (neighbours ws))
       go c e (another m a) f g ih =
-          ap (joinTo (waitData bs)) (joins-none (statementOf pool c) (joinedIn (said ws)) a) ∙ rw (a, m (bytesIn c + theirBytes ws) 0, m (neighbours ws + 1) 0, append-nil bs, e, joins-none (statementOf pool c) (joinedIn (said ws)) a)
+          ap (joinTo (waitData bs)) (joins-none (statementOf pool c) (joinedIn (said ws)) a) ∙ rw (a, m (awaitedBytes c + theirBytes ws) 0, m (neighbours ws + 1) 0, append-nil bs, e, joins-none (statementOf pool c) (joinedIn (said ws)) a)
 
 -- ---- from a place of the table on
 
@@ -130,13 +130,13 @@ module _ (cells pool : List ℕ) (end : ℕ) (inside : end ≤ length cells) whe
 
   pub from-data : (i at : ℕ) (s : Span) → i < end → wordsFit pool at (slice i end cells) ≡ true → decoded (getD cells i 0) ≡ WaitData s →
       from cells pool end i ≡ waitData (take (s .count + theirBytes (slice (i + 1) end cells)) (drop (s .from) pool)) ∷ from cells pool end (i + 1 + neighbours (slice (i + 1) end cells))
-  unfolding from joinedIn statementOf wordsFit cellFits follows tests.bytesIn
+  unfolding from joinedIn statementOf wordsFit cellFits follows tests.bytesOfCell
   from-data i at s l h e =
       let ws : List ℕ = slice (i + 1) end cells in
       let c : Cell = decoded (getD cells i 0) in
       let h′ : wordsFit pool at (getD cells i 0 ∷ ws) ≡ true = rw (parts i l) at h in
       let f : cellFits pool at (WaitData s) ≡ true = rw e at (both-left (cellFits pool at c) _ h′) in
-      let g : wordsFit pool (at + tests.bytesIn (WaitData s)) ws ≡ true = rw e at (both-right (cellFits pool at c) _ h′) in
+      let g : wordsFit pool (at + tests.bytesOfCell (WaitData s)) ws ≡ true = rw e at (both-right (cellFits pool at c) _ h′) in
       let at-s : s .from ≡ at = eqb-true (s .from) at (both-left (follows at s) _ f) in
       let together : dataAt pool s ++ take (theirBytes ws) (drop (at + s .count) pool) ≡ take (s .count + theirBytes ws) (drop (s .from) pool) =
       rw (at-s, ← drop-drop (s .count) at pool) (sym (take-add (s .count) (theirBytes ws) (drop at pool)))

@@ -12,7 +12,7 @@ use lib.ListN.{length, take, length-append, length-take, length-drop, take-appen
 use lib.Seq.{drop-append-le, take-at, drop-append-add, take-length, take-take}
 use Rattle.reader.specs.Bytes.{same}
 use Rattle.reader.proofs.Same.{same-is, is-same}
-use Rattle.process.specs.Matching.{last, longest, progress, recent, advance}
+use Rattle.process.specs.Matching.{last, longestMatch, progress, recent, advance}
 use Rattle.running.specs.Running.{endsIn}
 
 -- the first j bytes of d are the last j of xs
@@ -25,12 +25,12 @@ module _ (d xs : List ℕ) where
   none : Ends d xs 0
   none = record { within = omega arith; equal = sym (drop-of-length-le xs {i = length xs - 0} (omega arith)) }
 
-  one-more : (n : ℕ) (t : Bool) → same (take (suc n) d) (last (suc n) xs) ≡ t → suc n ≤ length xs → Ends d xs (longest d xs n)
-      → Ends d xs (cond t (suc n) (longest d xs n))
+  one-more : (n : ℕ) (t : Bool) → same (take (suc n) d) (last (suc n) xs) ≡ t → suc n ≤ length xs → Ends d xs (longestMatch d xs n)
+      → Ends d xs (cond t (suc n) (longestMatch d xs n))
   one-more n true e h rest = record { within = h; equal = same-is (take (suc n) d) (last (suc n) xs) e }
   one-more n false e h rest = rest
 
-  fits-to : (n : ℕ) → n ≤ length xs → Ends d xs (longest d xs n)
+  fits-to : (n : ℕ) → n ≤ length xs → Ends d xs (longestMatch d xs n)
   fits-to zero h = none
   fits-to (suc n) h = one-more n (same (take (suc n) d) (last (suc n) xs)) refl h (fits-to n (omega arith))
 
@@ -38,18 +38,18 @@ module _ (d xs : List ℕ) where
   unfolding progress
   fits = fits-to (length xs) (omega arith)
 
-  at-top : (n : ℕ) → Ends d xs (suc n) → suc n ≤ longest d xs (suc n)
+  at-top : (n : ℕ) → Ends d xs (suc n) → suc n ≤ longestMatch d xs (suc n)
   at-top n w = rw (is-same (w .equal)) (omega arith)
 
-  at-less : (n j : ℕ) (t : Bool) → j ≤ n → j ≤ longest d xs n → j ≤ cond t (suc n) (longest d xs n)
+  at-less : (n j : ℕ) (t : Bool) → j ≤ n → j ≤ longestMatch d xs n → j ≤ cond t (suc n) (longestMatch d xs n)
   at-less n j true h m = omega arith
   at-less n j false h m = m
 
-  most-to : (n j : ℕ) → j ≤ n → Ends d xs j → j ≤ longest d xs n
+  most-to : (n j : ℕ) → j ≤ n → Ends d xs j → j ≤ longestMatch d xs n
   most-to zero j h w = h
   most-to (suc n) j h w = by (λ low. most-to n j low w) (decLt n j)
     where
-      by : (j ≤ n → j ≤ longest d xs n) → Dec (n < j) → j ≤ longest d xs (suc n)
+      by : (j ≤ n → j ≤ longestMatch d xs n) → Dec (n < j) → j ≤ longestMatch d xs (suc n)
       by less (yes p) =
           let top : j ≡ suc n = omega arith in
           rw top (at-top n (rw top at w))

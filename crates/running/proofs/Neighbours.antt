@@ -11,9 +11,9 @@ use Rattle.reader.proofs.Tests.{both-left, both-right}
 use Rattle.language.specs.Script.{Script}
 use Rattle.running.specs.Joined.{done}
 use Rattle.process.specs.declared.Reading.{Reading}
-use Rattle.process.specs.Events.{readingRight}
+use Rattle.events.specs.Events.{readingRight}
 use Rattle.runner.specs.Calls.{Call, start, tick, byte, reading, level, drain, Reply}
-use Rattle.running.specs.Running.{Process, Wait, forNothing, Box, ticked, gets, read, levelled, busy, Called, begins, waiting, started, called}
+use Rattle.running.specs.Running.{Process, Wait, forNothing, Box, ticked, gets, read, levelled, busy, Called, atFirst, waiting, started, called}
 use Rattle.running.specs.Called.{process}
 use Rattle.running.specs.Neighbours.{Fed, callsOf, Part, drainedBy, fedWith, quietly, says, parts, ofScript, Agree, ScriptsApart}
 use Rattle.running.proofs.Drains.{of, quiet-idle}
@@ -30,7 +30,7 @@ record Near (k : ℕ) (b c : Box) : Type 0 where
 
 starts-near : (k : ℕ) (s r : Script) → Agree k s r → Near k (started s) (started r)
 unfolding started
-starts-near k s r g = record { process = List·getD-map begins (done (s .body)) k [] ∙ ap begins g ∙ sym (List·getD-map begins (done (r .body)) k []); reading = refl; levels = refl }
+starts-near k s r g = record { process = List·getD-map atFirst (done (s .body)) k [] ∙ ap atFirst g ∙ sym (List·getD-map atFirst (done (r .body)) k []); reading = refl; levels = refl }
 
 -- ---- at a quiet moment every call keeps them so
 
@@ -89,7 +89,7 @@ module _ (k : ℕ) (s r : Script) (g : Agree k s r) where
   Same b c fs hs = quietly (ofScript s) b fs ≡ true → quietly (ofScript r) c hs ≡ true → callsOf fs ≡ callsOf hs →
       parts (ofScript s) k b fs ≡ parts (ofScript r) k c hs
 
-  -- one call with the drains behind it, and then the rest
+  -- one call with the drains after it, and then the rest
   fed-near : (b c : Box) (f h : Fed) (fs hs : List Fed) → Near k (called s (f .call) b .box) (called r (h .call) c .box) →
       (Near k (fedWith (ofScript s) f b) (fedWith (ofScript r) h c) → busy (fedWith (ofScript s) f b) ≡ false → busy (fedWith (ofScript r) h c) ≡ false →
       Same (fedWith (ofScript s) f b) (fedWith (ofScript r) h c) fs hs) → Same b c (f ∷ fs) (h ∷ hs)

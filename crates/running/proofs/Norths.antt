@@ -16,22 +16,23 @@ use Rattle.language.specs.Table.{scriptOf, settingsOf}
 use Rattle.language.specs.Answer.{answered, compiled}
 use Rattle.language.proofs.Opened.{printed}
 use Rattle.process.specs.declared.Received.the-variants.{Took}
-use Rattle.process.specs.Events.{every}
-use Rattle.recording.specs.Recording as recording
+use Rattle.events.specs.Recording as recording
 use Rattle.record.specs.Logging as logging
 use Rattle.runner.specs.Calls.{Box, Call, start, tick, byte, received}
-use Rattle.bounded.specs.Replies.{Compiles, took, plain, sent, recorded}
+use Rattle.bounded.specs.Replies.{Compiles, wasTaken, plain, sent, recorded}
 use Rattle.running.specs.Joined as joined
 use Rattle.running.specs.Running as script
 use Rattle.running.specs.Neighbours as runs
-use Rattle.running.specs.Neighbours.{Fed, callsOf, Part, fedWith, quietly, accepted, parts, ofScript, ofTable, wide, AsAsked, Neighbours}
+use Rattle.running.specs.Neighbours.{Fed, callsOf, Part, fedWith, quietly, accepted, parts, ofScript, ofTable, AsAsked, Neighbours}
 use Rattle.running.proofs.Counts.{countsBy}
 use Rattle.running.proofs.SameRuns.{tabled}
 use Rattle.running.proofs.Boxes.{same-run, norths-apart}
+use Rattle.language.specs.Limits.{wide}
+use Rattle.reader.specs.Bytes.{all}
 
 -- ---- the two scripts
 
--- the lines behind `#PROCESS` are the same
+-- the lines after `#PROCESS` are the same
 one-text : List ℕ
 one-text = ascii "#PAUSE\n#LOG a\n#PROCESS\n#WAIT BYTE\n#LOG @c\n#WAIT TIME 1MS\n/B\n"
 
@@ -72,7 +73,7 @@ one-run = fed start (128 ∷ 128 ∷ 128 ∷ []) ∷ fed (byte 65) (128 ∷ 128 
 other-run : List Fed
 other-run = fed start (128 ∷ 129 ∷ 130 ∷ 131 ∷ 132 ∷ 133 ∷ 134 ∷ []) ∷ fed (byte 65) (200 ∷ 200 ∷ []) ∷ fed tick (512 ∷ 512 ∷ []) ∷ []
 
--- what process 1 says behind the start, behind the byte and behind the tick, and the counts of its four statements then
+-- what process 1 says after the start, after the byte and after the tick, and the counts of its four statements then
 told : List (Part (List ℕ))
 told =
     record { replies = plain ∷ []; kept = 0 ∷ 0 ∷ 0 ∷ 0 ∷ [] }
@@ -85,7 +86,7 @@ told =
 -- copies being how often the byte is recorded
 record Computed (t : Table) (fs : List Fed) (copies : ℕ) : Type 0 where
   calls : callsOf fs ≡ start ∷ events
-  buffers : every (λ (f : Fed). every wide (f .rooms)) fs ≡ true
+  buffers : all (λ (f : Fed). all wide (f .rooms)) fs ≡ true
   quiet : (y : script.Box) → quietly (ofScript (scriptOf t)) y fs ≡ true
   taken : (y : script.Box) → accepted (ofScript (scriptOf t)) y fs ≡ true
   says : (y : script.Box) → map (tabled (getD (processes (scriptOf t .body)) 1 [])) (parts (ofScript (scriptOf t)) 1 y fs) ≡ told
@@ -93,7 +94,7 @@ record Computed (t : Table) (fs : List Fed) (copies : ℕ) : Type 0 where
 
 -- paused in the one, and not in the other: that is no part of what is equal
 computed : Computed one one-run 0 × Computed other other-run 1
-unfolding one-text one other-text other one-run other-run told compiled printed answered table.laidOut table.headsOf table.wordsFrom table.poolOf table.endsFrom table.cellFor cell.coded cell.decoded cell.cellOf timeRight scriptOf settingsOf table.itemsOf table.bodyFrom table.statementOf table.lettersOf cell.spanNumber cell.spanRight processes inFirst joined.joinedIn joined.joinTo joined.joinTwo joined.awaits joined.done script.nextIn script.nextBy script.isStatement script.busy script.ticked script.gets script.unlessZero script.closed script.logged script.does script.later script.takes script.turn script.drained script.timesBy script.times script.started script.called recording.oneOf logging.signText logging.writtenOut logging.recordOf logging.nextCount took runs.drainedBy runs.quietly runs.accepted runs.saysIn runs.says runs.parts runs.lowest countsBy
+unfolding one-text one other-text other one-run other-run told compiled printed answered table.laidOut table.headsOf table.wordsFrom table.poolOf table.endsFrom table.cellFor cell.coded cell.decoded cell.cellOf timeRight scriptOf settingsOf table.itemsOf table.bodyFrom table.statementOf table.lettersOf cell.spanNumber cell.spanRight processes inFirst joined.joinedIn joined.joinTo joined.joinTwo joined.awaits joined.done script.nextIn script.nextBy script.isStatement script.busy script.ticked script.gets script.unlessZero script.closed script.logged script.does script.later script.takes script.turn script.drained script.timesBy script.timesRecorded script.started script.called recording.oneOf logging.signText logging.writtenOut logging.recordOf logging.nextCount wasTaken runs.drainedBy runs.quietly runs.accepted runs.saysIn runs.says runs.parts runs.lowest countsBy
 computed = (
   record { calls = refl; buffers = refl; quiet = λ y. refl; taken = λ y. refl; says = λ y. refl; recorded = λ y. refl },
   record { calls = refl; buffers = refl; quiet = λ y. refl; taken = λ y. refl; says = λ y. refl; recorded = λ y. refl },

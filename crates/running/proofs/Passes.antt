@@ -58,7 +58,7 @@ joined-done a b l m f g p ss w c =
 -- ---- a loop
 
 module _ (body l : List Statement) (f : DoneAs body l) (ss : List Statement) (ls : List Loop) where
-  -- the body, its END, and what is behind the loop
+  -- the body, its END, and what is after the loop
   abbrev again : List Statement
   again = body ++ (end ∷ ss)
 

@@ -9,31 +9,32 @@ use lib.Dec.{eqb}
 use lib.ListN.{length}
 use borrow.Author.Tests.{ltb-true, eq-eqb, ne-eqb}
 use Rattle.reader.proofs.Tests.{both, both-left, both-right, true-is-false}
-use Rattle.runs.specs.Cap.{over}
+use Rattle.figures.specs.Cap.{over}
 use Rattle.language.specs.declared.Table.{Table}
-use Rattle.language.specs.Limits.{processLimit}
+use Rattle.language.specs.Limits.{processLimit, wide}
 use Rattle.language.specs.Script.{Script}
 use Rattle.language.specs.Table.{scriptOf}
-use Rattle.process.specs.Events as events
-use Rattle.process.specs.Events.{any, every}
+use Rattle.process.specs.State as states
+use Rattle.process.specs.State.{any}
 use Rattle.process.specs.Waiting.{ready}
 use Rattle.runner.specs.Draining as draining
 use Rattle.runner.specs.Calls as calls
-use Rattle.starting.specs.Starting.{startEvent}
+use Rattle.runner.specs.Starting.{startEvent}
 use Rattle.runner.specs.Calls.{Call, start, tick, byte, reading, level, drain, outcome, startCall}
 use Rattle.bounded.specs.Replies as runner
-use Rattle.bounded.specs.Replies.{took, isEvent}
-use Rattle.bounded.specs.Demand3.{tally, next, after, fresh}
+use Rattle.bounded.specs.Replies.{wasTaken, isEvent}
+use Rattle.bounded.specs.Demand3.{tally, nextCall, afterCalls, fresh}
 use Rattle.bounded.specs.Demand3 as demand3
 use Rattle.bounded.proofs.Several.{busy-lowest}
 use Rattle.running.specs.Running.{Box, busy, Deed, does, Called, started, called}
-use Rattle.running.specs.Neighbours.{Fed, callsOf, drainedBy, fedWith, quietly, wide, accepted, ofScript, enough, Quiets, inRange, HasRuns}
+use Rattle.running.specs.Neighbours.{Fed, callsOf, drainedBy, fedWith, quietly, accepted, ofScript, enough, Quiets, inRange, HasRuns}
 use Rattle.running.proofs.Starts.{Bears}
 use Rattle.running.proofs.Drains.{says-so, one-statement, quiet-idle}
 use Rattle.running.proofs.Following.{Follows, start-follows, answers, follows-on, busy-is}
 use Rattle.running.proofs.SameRuns.{drained}
 use Rattle.running.proofs.Boxes.{same-run}
 use Rattle.running.proofs.Agreement.{own-script}
+use Rattle.reader.specs.Bytes.{all}
 
 -- ---- the statements of all processes
 
@@ -70,7 +71,7 @@ total-more (suc m) low f g l h = elim (ℕ-discrete m low) [
 
 module _ (t : Table) (s : Script) (n : ℕ) (a : Bears t s n) where
   most : (b : calls.Box) (c : Box) (f : ℕ → ℕ) → Follows t n b c f → total processLimit f ≤ enough
-  most b c f z = total-most processLimit f (λ i l. omega (arith, z .stands .bounded .every i l .fine .brief, a .fits .bounded))
+  most b c f z = total-most processLimit f (λ i l. omega (arith, z .in-step .bounded .every i l .fine .brief, a .fits .bounded))
 
   -- a drain of a box that is not quiet does one more
   one-more : (b : calls.Box) (c : Box) (f : ℕ → ℕ) → Follows t n b c f → (room : ℕ) → wide room ≡ true → busy c ≡ true →
@@ -84,18 +85,18 @@ module _ (t : Table) (s : Script) (n : ℕ) (a : Bears t s n) where
       answers t s n a b c f z (drain room) .reply ∙ ap (λ (y : Called). y .reply) (o .one (x .before) (x .process) (x .behind) (x .statement) (x .rest) (x .turn))
       in
       let low = ltb-true (draining.lowest (b .state .processes)) (length (b .state .processes)) (sym (busy-lowest (b .state .processes)) ∙ is-busy) in
-      total-more processLimit (draining.lowest (b .state .processes)) f _ (omega (arith, low, z .stands .bounded .eight))
+      total-more processLimit (draining.lowest (b .state .processes)) f _ (omega (arith, low, z .in-step .bounded .eight))
       (λ i. rw (r, says-so c (x .process) (x .rest) (x .statement) .0))
     where
       is-busy : any ready (b .state .processes) ≡ true
-      is-busy = unfold events.busy in busy-is t s n a b c f z ∙ e
+      is-busy = unfold states.busy in busy-is t s n a b c f z ∙ e
 
   stays-quiet : (rooms : List ℕ) (c : Box) → busy c ≡ false → busy (drainedBy (ofScript s) c rooms) ≡ false
   unfolding drainedBy
   stays-quiet [] c e = e
   stays-quiet (room ∷ rooms) c e = stays-quiet rooms (called s (drain room) c .box) (ap busy (quiet-idle s c room e .box) ∙ e)
 
-  drains-quiet : (rooms : List ℕ) (b : calls.Box) (c : Box) (f : ℕ → ℕ) → Follows t n b c f → every wide rooms ≡ true → enough ≤ total processLimit f + length rooms →
+  drains-quiet : (rooms : List ℕ) (b : calls.Box) (c : Box) (f : ℕ → ℕ) → Follows t n b c f → all wide rooms ≡ true → enough ≤ total processLimit f + length rooms →
       busy (drainedBy (ofScript s) c rooms) ≡ false
   unfolding drainedBy
   drains-quiet [] b c f z w l = go (busy c) refl
@@ -105,7 +106,7 @@ module _ (t : Table) (s : Script) (n : ℕ) (a : Bears t s n) where
       go true e = absurd (omega (arith, one-more b c f z 128 refl e, most _ _ _ (follows-on t s n a b c f z (drain 128))))
   drains-quiet (room ∷ rooms) b c f z w l = go (busy c) refl (drains-quiet rooms)
     where
-      go : (u : Bool) → busy c ≡ u → ((b : calls.Box) (c : Box) (f : ℕ → ℕ) → Follows t n b c f → every wide rooms ≡ true → enough ≤ total processLimit f + length rooms →
+      go : (u : Bool) → busy c ≡ u → ((b : calls.Box) (c : Box) (f : ℕ → ℕ) → Follows t n b c f → all wide rooms ≡ true → enough ≤ total processLimit f + length rooms →
           busy (drainedBy (ofScript s) c rooms) ≡ false) → busy (drainedBy (ofScript s) (called s (drain room) c .box) rooms) ≡ false
       go false e ih = stays-quiet (room ∷ rooms) c e
       go true e ih =
@@ -114,20 +115,20 @@ module _ (t : Table) (s : Script) (n : ℕ) (a : Bears t s n) where
 
   -- whatever calls came before
   fresh-follows : (b : calls.Box) (c : Box) → Follows t n (fresh t b .box) (called s start c .box) (fresh t b .done)
-  unfolding fresh next
+  unfolding fresh nextCall
   fresh-follows b c = subst (Follows t n (runner.called t start b .box) (called s start c .box)) (sym none-done) (start-follows t s n a b c)
     where
       none-done : tally (b .state) (runner.called t start b .reply) (λ i. 0) ≡ (λ i. 0)
       none-done = unfold tally calls.called startCall startEvent in rw (a .fits .started)
 
-  calls-follow : (qs : List Call) (r : demand3.Run) (c : Box) → Follows t n (r .box) c (r .done) → (c′ : Box) × Follows t n (after t r qs .box) c′ (after t r qs .done)
-  unfolding after next
+  calls-follow : (qs : List Call) (r : demand3.CountedRun) (c : Box) → Follows t n (r .box) c (r .done) → (c′ : Box) × Follows t n (afterCalls t r qs .box) c′ (afterCalls t r qs .done)
+  unfolding afterCalls nextCall
   calls-follow [] r c z = (c, z)
-  calls-follow (q ∷ qs) r c z = calls-follow qs (next t r q) (called s q c .box) (follows-on t s n a (r .box) c (r .done) z q)
+  calls-follow (q ∷ qs) r c z = calls-follow qs (nextCall t r q) (called s q c .box) (follows-on t s n a (r .box) c (r .done) z q)
 
-  -- ---- events in range, with so many drains behind each
+  -- ---- events in range, with so many drains after each
 
-  module _ (rooms : List ℕ) (w : every wide rooms ≡ true) (l : enough ≤ length rooms) where
+  module _ (rooms : List ℕ) (w : all wide rooms ≡ true) (l : enough ≤ length rooms) where
     abbrev feed : Call → Fed
     feed q = record { call = q; rooms = rooms }
 
@@ -136,18 +137,18 @@ module _ (t : Table) (s : Script) (n : ℕ) (a : Bears t s n) where
       taken : accepted (ofScript s) c (map feed qs) ≡ true
 
     -- a call that is taken
-    feeds : (b : calls.Box) (c : Box) (f : ℕ → ℕ) (q : Call) (qs : List Call) → Follows t n (runner.called t q b .box) (called s q c .box) f → took (called s q c .reply) ≡ true →
+    feeds : (b : calls.Box) (c : Box) (f : ℕ → ℕ) (q : Call) (qs : List Call) → Follows t n (runner.called t q b .box) (called s q c .box) f → wasTaken (called s q c .reply) ≡ true →
         ((b : calls.Box) (c : Box) (f : ℕ → ℕ) → Follows t n b c f → busy c ≡ false → Right c qs) → Right c (q ∷ qs)
     unfolding quietly accepted
     feeds b c f q qs z e ih =
         let i = drains-quiet rooms _ _ f z w (omega arith) in
         let r = drained t s n a 0 rooms _ _ f z in
         let h = ih _ _ (r .done) (r .follows) i in
-        record { quiet = both (not (busy (fedWith (ofScript s) (feed q) c))) _ (ap not i) (h .quiet); taken = both (took (called s q c .reply)) _ e (h .taken) }
+        record { quiet = both (not (busy (fedWith (ofScript s) (feed q) c))) _ (ap not i) (h .quiet); taken = both (wasTaken (called s q c .reply)) _ e (h .taken) }
 
     -- an event in range is taken at a quiet moment
-    in-range : (c : Box) (q : Call) → busy c ≡ false → inRange q ≡ true → took (called s q c .reply) ≡ true
-    unfolding called took
+    in-range : (c : Box) (q : Call) → busy c ≡ false → inRange q ≡ true → wasTaken (called s q c .reply) ≡ true
+    unfolding called wasTaken
     in-range c start i e = true-is-false (sym e)
     in-range c tick i e = rw i
     in-range c (byte x) i e = rw i
@@ -155,23 +156,23 @@ module _ (t : Table) (s : Script) (n : ℕ) (a : Bears t s n) where
     in-range c (level m on) i e = rw (i, e)
     in-range c (drain room) i e = true-is-false (sym e)
 
-    all-right : (es : List Call) → every inRange es ≡ true → (b : calls.Box) (c : Box) (f : ℕ → ℕ) → Follows t n b c f → busy c ≡ false → Right c es
+    all-right : (es : List Call) → all inRange es ≡ true → (b : calls.Box) (c : Box) (f : ℕ → ℕ) → Follows t n b c f → busy c ≡ false → Right c es
     unfolding quietly accepted
     all-right [] e b c f z i = record { quiet = refl; taken = refl }
     all-right (q ∷ es) e b c f z i =
         feeds b c _ q es (follows-on t s n a b c f z q) (in-range c q i (both-left (inRange q) _ e)) (all-right es (both-right (inRange q) _ e))
 
-    from-start : (b : calls.Box) (c : Box) (es : List Call) → every inRange es ≡ true → Right c (start ∷ es)
-    unfolding called took
+    from-start : (b : calls.Box) (c : Box) (es : List Call) → all inRange es ≡ true → Right c (start ∷ es)
+    unfolding called wasTaken
     from-start b c es e = feeds b c _ start es (start-follows t s n a b c) refl (all-right es e)
 
     their-calls : (qs : List Call) → callsOf (map feed qs) ≡ qs
     their-calls [] = refl
     their-calls (q ∷ qs) = ap (λ (l : List Call). q ∷ l) (their-calls qs)
 
-    their-buffers : (qs : List Call) → every (λ (f : Fed). every wide (f .rooms)) (map feed qs) ≡ true
+    their-buffers : (qs : List Call) → all (λ (f : Fed). all wide (f .rooms)) (map feed qs) ≡ true
     their-buffers [] = refl
-    their-buffers (q ∷ qs) = both (every wide rooms) _ w (their-buffers qs)
+    their-buffers (q ∷ qs) = both (all wide rooms) _ w (their-buffers qs)
 
 is-event : (q : Call) → inRange q ≡ true → isEvent q ≡ true
 is-event start e = e
@@ -181,7 +182,7 @@ is-event (reading r) e = refl
 is-event (level n on) e = refl
 is-event (drain room) e = e
 
-all-events : (es : List Call) → every inRange es ≡ true → every isEvent es ≡ true
+all-events : (es : List Call) → all inRange es ≡ true → all isEvent es ≡ true
 all-events [] e = refl
 all-events (q ∷ es) e = both (isEvent q) _ (is-event q (both-left (inRange q) _ e)) (all-events es (both-right (inRange q) _ e))
 

@@ -7,14 +7,14 @@ use lib.Dec.{ltb}
 use Rattle.reader.proofs.Tests.{true-is-false, by-cases}
 use Rattle.language.specs.Script.{Script}
 use Rattle.process.specs.declared.Copies.{Copies}
-use Rattle.process.specs.declared.Refusal.the-variants.{Busy, SmallBuffer}
+use Rattle.process.specs.declared.RunRefusal.the-variants.{Busy, SmallBuffer}
 use Rattle.process.specs.declared.Received.the-variants as received
-use Rattle.process.specs.Events.{readingRight}
-use Rattle.outcome.specs.declared.Outcome.the-variants.{Refused}
+use Rattle.events.specs.Events.{readingRight}
+use Rattle.statement.specs.declared.outcome.Outcome.the-variants.{Refused}
 use Rattle.runner.specs.Calls as calls
 use Rattle.runner.specs.Calls.{Call, start, tick, byte, reading, level, drain, outcome}
 use Rattle.running.specs.Running as script
-use Rattle.running.specs.Running.{Process, Box, Next, idle, statement, next, busy, Turn, none, later, takes, turn, Called, drained, times, having, allWaiting, started, called}
+use Rattle.running.specs.Running.{Process, Box, Next, idle, statement, next, busy, Turn, none, later, takes, turn, Called, drained, timesRecorded, having, allWaiting, started, called}
 use Rattle.running.specs.Called.{boxAfter, pausedSince, pausedAfter, pausedThen, RecordedRight}
 use Rattle.running.proofs.Drains.{says-so}
 
@@ -53,14 +53,14 @@ module _ (s : Script) (b : Box) where
       by-cases (λ (r : Called). r .box .paused ≡ pausedAfter (drain room) (r .reply) (b .paused)) (ltb 127 room) _ (record { box = b; reply = outcome (Refused SmallBuffer) [] })
       (λ u. drain-pauses (turn b (b .processes)) (turn-pauses b (b .processes))) (λ u. refl)
 
-  copied-once : (x : ℕ) (c : Copies) → called s (byte x) b .reply ≡ calls.received (received.Took c) → c .count ≡ times (s .settings) (b .paused) x
+  copied-once : (x : ℕ) (c : Copies) → called s (byte x) b .reply ≡ calls.received (received.Took c) → c .count ≡ timesRecorded (s .settings) (b .paused) x
   unfolding called
   copied-once x c = go (busy b)
     where
       go : (u : Bool) →
           cond {A = Called} u (record { box = b; reply = calls.received (received.Refused Busy) })
-          (record { box = having (allWaiting (script.gets x) b) b; reply = calls.received (received.Took (record { count = times (s .settings) (b .paused) x })) }) .reply
-          ≡ calls.received (received.Took c) → c .count ≡ times (s .settings) (b .paused) x
+          (record { box = having (allWaiting (script.gets x) b) b; reply = calls.received (received.Took (record { count = timesRecorded (s .settings) (b .paused) x })) }) .reply
+          ≡ calls.received (received.Took c) → c .count ≡ timesRecorded (s .settings) (b .paused) x
       go true e = true-is-false (cc)
       go false e = cc
 
@@ -72,5 +72,5 @@ paused-then s (q ∷ qs) b = paused-then s qs (called s q b .box) ∙ ap (paused
 pub recorded-right : (s : Script) (b : Box) (qs : List Call) → RecordedRight s b qs
 recorded-right s b qs = record {
   paused = paused-then s qs b;
-  copied = λ x c e. copied-once s (boxAfter s b qs) x c e ∙ ap (λ (p : Bool). times (s .settings) p x) (paused-then s qs b);
+  copied = λ x c e. copied-once s (boxAfter s b qs) x c e ∙ ap (λ (p : Bool). timesRecorded (s .settings) p x) (paused-then s qs b);
 }

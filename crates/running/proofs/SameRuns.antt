@@ -11,7 +11,7 @@ use Rattle.running.specs.Joined.{done}
 use Rattle.runner.specs.Calls as calls
 use Rattle.runner.specs.Calls.{Call, start, drain, Reply}
 use Rattle.bounded.specs.Replies as runner
-use Rattle.bounded.specs.Replies.{took}
+use Rattle.bounded.specs.Replies.{wasTaken}
 use Rattle.running.specs.Running as script
 use Rattle.running.specs.Running.{Box, called}
 use Rattle.running.specs.Neighbours.{Fed, callsOf, Part, drainedBy, fedWith, quietly, accepted, says, parts, ofScript, ofTable}
@@ -46,7 +46,7 @@ module _ (t : Table) (s : Script) (n : ℕ) (a : Bears t s n) where
     pub taken : accepted (ofTable t) b fs ≡ accepted (ofScript s) c fs
     pub compared : parts (ofTable t) k b fs ≡ map (tabled (getD (processes (s .body)) k [])) (parts (ofScript s) k c fs)
 
-  -- a call that leaves them so, the drains behind it, and then the rest
+  -- a call that leaves them so, the drains after it, and then the rest
   fed-sames : (k : ℕ) (b : calls.Box) (c : Box) (f : Fed) (fs : List Fed) (g : ℕ → ℕ) → Follows t n (runner.called t (f .call) b .box) (called s (f .call) c .box) g →
       runner.called t (f .call) b .reply ≡ called s (f .call) c .reply →
       ((h : ℕ → ℕ) → Follows t n (fedWith (ofTable t) f b) (fedWith (ofScript s) f c) h → Sames k (fedWith (ofTable t) f b) (fedWith (ofScript s) f c) fs) → Sames k b c (f ∷ fs)
@@ -56,7 +56,7 @@ module _ (t : Table) (s : Script) (n : ℕ) (a : Bears t s n) where
       let r = rest (d .done) (d .follows) in
       record {
         quiet = ap₂ (λ (u v : Bool). not u && v) (busy-is t s n a _ _ _ (d .follows)) (r .quiet);
-        taken = ap₂ (λ (u v : Bool). u && v) (ap took e) (r .taken);
+        taken = ap₂ (λ (u v : Bool). u && v) (ap wasTaken e) (r .taken);
         compared =
             ap₂ (λ (p : Part (List ℕ)) (ps : List (Part (List ℕ))). p ∷ ps)
             (ap₂ (λ (l : List Reply) (m : List ℕ). record { replies = l; kept = m }) (d .said) (kept-is t s n a _ _ _ (d .follows) k)) (r .compared);

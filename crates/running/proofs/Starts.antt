@@ -26,12 +26,12 @@ use Rattle.language.specs.Answer.{answered, scriptFrom, compiled}
 use Rattle.language.proofs.Good.{good}
 use Rattle.language.proofs.Trip.{accepted-right}
 use Rattle.stretch.specs.Marks as marks
-use Rattle.heads_fit.specs.Tests.{endsRight}
+use Rattle.accepted.specs.inside.Heads.{endsRight}
 use Rattle.accepted.proofs.Exactly.{script-of}
 use Rattle.accepted.proofs.Laid.{laid-ends}
 use Rattle.process.specs.declared.Process.{Process}
 use Rattle.process.specs.Waiting.{awake}
-use Rattle.starting.specs.Starting.{started, startedFrom, noCounts}
+use Rattle.runner.specs.Starting.{started, startedFrom, noCounts}
 use Rattle.bounded.specs.Replies.{Compiles}
 use Rattle.bounded.specs.Demand3.{firstOf, endOf}
 use Rattle.bounded.proofs.Ahead.{opensOf}
@@ -107,7 +107,7 @@ module _ (pool : List ℕ) where
   parts-many ws i [] = refl
   parts-many ws i (e ∷ es) = ap suc (parts-many ws e es)
 
-  -- the one behind j others, where the first begins at i
+  -- the one after j others, where the first begins at i
   parts-at : (ws : List ℕ) (i : ℕ) (es : List ℕ) (j : ℕ) → j < length es → getD (parts ws i es) j [] ≡ said pool (slice (getD (i ∷ es) j 0) (getD es j 0) ws)
   unfolding parts
   parts-at ws i [] j l = absurd (omega arith)
@@ -122,7 +122,7 @@ module _ (pool : List ℕ) where
 pub has-place : (h : Heads) (k j : ℕ) → j < endOf h k → k < h .processes
 has-place h k j l = go (ltb k (h .processes)) refl l
   where
-    go : (u : Bool) → ltb k (h .processes) ≡ u → j < cond u (marks.stops h k) 0 → k < h .processes
+    go : (u : Bool) → ltb k (h .processes) ≡ u → j < cond u (marks.endsAt h k) 0 → k < h .processes
     go true e g = ltb-true k (h .processes) e
     go false e g = absurd (omega arith)
 
@@ -138,10 +138,10 @@ module _ (t : Table) (s : Script) (k : ℕ) (a : Bears t s k) where
   ends-many : length ends ≡ h .processes
   ends-many = omega (arith, length-take (h .processes) (h .ends), a .few, a .ends)
 
-  stops-at : (j : ℕ) → j < h .processes → getD ends j 0 ≡ marks.stops h j
+  stops-at : (j : ℕ) → j < h .processes → getD ends j 0 ≡ marks.endsAt h j
   stops-at j l = getD-take (h .processes) (h .ends) j 0 l
 
-  begins-at : (j : ℕ) → j < h .processes → getD (0 ∷ ends) j 0 ≡ marks.begins h j
+  begins-at : (j : ℕ) → j < h .processes → getD (0 ∷ ends) j 0 ≡ marks.beginsAt h j
   begins-at zero l = refl
   begins-at (suc j) l = stops-at j (omega arith)
 
@@ -156,7 +156,7 @@ module _ (t : Table) (s : Script) (k : ℕ) (a : Bears t s k) where
   pub process-is : (i : ℕ) → getD (processes (s .body)) i [] ≡ said (t .pool) (slice (firstOf h i) (endOf h i) (t .cells))
   process-is i = go (ltb i (h .processes)) refl
     where
-      go : (u : Bool) → ltb i (h .processes) ≡ u → getD (processes (s .body)) i [] ≡ said (t .pool) (slice (cond u (marks.begins h i) 0) (cond u (marks.stops h i) 0) (t .cells))
+      go : (u : Bool) → ltb i (h .processes) ≡ u → getD (processes (s .body)) i [] ≡ said (t .pool) (slice (cond u (marks.beginsAt h i) 0) (cond u (marks.endsAt h i) 0) (t .cells))
       go true e =
           let l = ltb-true i (h .processes) e in
           ap (λ (ps : List (List Statement)). getD ps i []) processes-are
@@ -171,39 +171,39 @@ module _ (t : Table) (s : Script) (k : ℕ) (a : Bears t s k) where
   over-started zero i l = tt
   over-started (suc m) i l = (rw (le-ltb i (h .processes) l), over-started m (i + 1) (omega arith))
 
-  start-one : (i : ℕ) → i < h .processes → Alike t i noCounts (started h i) (script.begins (from (t .cells) (t .pool) (marks.stops h i) (marks.begins h i)))
+  start-one : (i : ℕ) → i < h .processes → Alike t i noCounts (started h i) (script.atFirst (from (t .cells) (t .pool) (marks.endsAt h i) (marks.beginsAt h i)))
   unfolding started opensOf
   start-one i l =
       let own = a .fits .sound i .own in
       let yes-i = lt-ltb i (h .processes) l in
-      let inside : marks.stops h i ≤ length (t .cells) = rw yes-i at (own .inside) in
-      let small : marks.stops h i ≤ linesLimit = rw yes-i at (own .small) in
+      let inside : marks.endsAt h i ≤ length (t .cells) = rw yes-i at (own .inside) in
+      let small : marks.endsAt h i ≤ linesLimit = rw yes-i at (own .small) in
       rw yes-i (record {
         ends = refl;
         coming = refl;
         loops = refl;
-        wait = awake-waits (t .cells) (t .pool) (marks.stops h i) inside (marks.begins h i);
+        wait = awake-waits (t .cells) (t .pool) (marks.endsAt h i) inside (marks.beginsAt h i);
         counted = λ j z low high e. sym (getD-replicate linesLimit j 0 0 (omega arith));
       })
 
-  starts : (m i first : ℕ) (es : List ℕ) → i + length es ≡ h .processes → length es ≤ m → first ≡ marks.begins h i →
-      ((j : ℕ) → j < length es → getD es j 0 ≡ marks.stops h (i + j)) →
-      Alikes t noCounts i (startedFrom h i m) (map script.begins (map joinedIn (parts (t .pool) (t .cells) first es)))
+  starts : (m i first : ℕ) (es : List ℕ) → i + length es ≡ h .processes → length es ≤ m → first ≡ marks.beginsAt h i →
+      ((j : ℕ) → j < length es → getD es j 0 ≡ marks.endsAt h (i + j)) →
+      Alikes t noCounts i (startedFrom h i m) (map script.atFirst (map joinedIn (parts (t .pool) (t .cells) first es)))
   unfolding startedFrom parts from
   starts m i first [] n l b e = over-started m i (omega arith)
   starts zero i first (x ∷ es) n l b e = absurd (omega arith)
   starts (suc m) i first (x ∷ es) n l b e =
       let zero-i : i + 0 ≡ i = omega arith in
-      let here : x ≡ marks.stops h i = e 0 (omega arith) ∙ rw zero-i in
-      let next-first : x ≡ marks.begins h (i + 1) = rw (add-one i) here in (
+      let here : x ≡ marks.endsAt h i = e 0 (omega arith) ∙ rw zero-i in
+      let next-first : x ≡ marks.beginsAt h (i + 1) = rw (add-one i) here in (
         rw (b, here) (start-one i (omega (arith, n))),
-        subst (λ (j : ℕ). Alikes t noCounts j (startedFrom h (i + 1) m) (map script.begins (map joinedIn (parts (t .pool) (t .cells) x es)))) (add-one i)
+        subst (λ (j : ℕ). Alikes t noCounts j (startedFrom h (i + 1) m) (map script.atFirst (map joinedIn (parts (t .pool) (t .cells) x es)))) (add-one i)
             (starts m (i + 1) x es (omega (arith, n)) (omega arith) next-first
             (λ j d. let z : i + suc j ≡ i + 1 + j = omega arith in e (suc j) (omega arith) ∙ rw z)),
       )
 
   -- a start makes the box stand for the script
-  pub start-alike : Alikes t noCounts 0 (startedFrom h 0 processLimit) (map script.begins (done (s .body)))
+  pub start-alike : Alikes t noCounts 0 (startedFrom h 0 processLimit) (map script.atFirst (done (s .body)))
   unfolding done
   start-alike =
       rw processes-are
@@ -212,22 +212,22 @@ module _ (t : Table) (s : Script) (k : ℕ) (a : Bears t s k) where
 
   -- ---- the processes lie apart
 
-  order : (j : ℕ) → j < h .processes → marks.begins h j ≤ marks.stops h j
+  order : (j : ℕ) → j < h .processes → marks.beginsAt h j ≤ marks.endsAt h j
   order j l = rw (lt-ltb j (h .processes) l) at (a .fits .sound j .order)
 
-  rises : (i j : ℕ) → i < j → j < h .processes → marks.stops h i ≤ marks.begins h j
+  rises : (i j : ℕ) → i < j → j < h .processes → marks.endsAt h i ≤ marks.beginsAt h j
   rises i zero l g = absurd (omega arith)
   rises i (suc j) l g = elim (decLt i j) [
     | yes d ↦ omega (arith, rises i j d (omega arith), order j (omega arith))
-    | no d ↦ let e : i ≡ j = omega arith in rw e (le-refl (marks.stops h j))
+    | no d ↦ let e : i ≡ j = omega arith in rw e (le-refl (marks.endsAt h j))
   ]
 
   -- a place of one is no place of another
   pub apart : (i j x y : ℕ) → (j ≡ i → ⊥) → firstOf h i ≤ x → x < endOf h i → firstOf h j ≤ y → y < endOf h j → y ≡ x → ⊥
   apart i j x y n a₁ b₁ a₂ b₂ e = go (ltb i (h .processes)) refl (ltb j (h .processes)) refl a₁ b₁ a₂ b₂
     where
-      go : (u : Bool) → ltb i (h .processes) ≡ u → (v : Bool) → ltb j (h .processes) ≡ v → cond u (marks.begins h i) 0 ≤ x → x < cond u (marks.stops h i) 0 →
-          cond v (marks.begins h j) 0 ≤ y → y < cond v (marks.stops h j) 0 → ⊥
+      go : (u : Bool) → ltb i (h .processes) ≡ u → (v : Bool) → ltb j (h .processes) ≡ v → cond u (marks.beginsAt h i) 0 ≤ x → x < cond u (marks.endsAt h i) 0 →
+          cond v (marks.beginsAt h j) 0 ≤ y → y < cond v (marks.endsAt h j) 0 → ⊥
       go true p true q c₁ d₁ c₂ d₂ = elim (decLt i j) [
         | yes d ↦ omega (arith, rises i j d (ltb-true j (h .processes) q))
         | no d ↦ let l : j < i = omega arith in omega (arith, rises j i l (ltb-true i (h .processes) p))

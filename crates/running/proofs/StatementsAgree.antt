@@ -22,14 +22,14 @@ use Rattle.process.specs.declared.Wait.{Wait}
 use Rattle.process.specs.declared.Wait.the-variants.{Ticks, Bytes, Data, ClockValue, Signal}
 use Rattle.process.specs.declared.Process.{Process}
 use Rattle.process.specs.Waiting.{sameLevel}
-use Rattle.loops.specs.Ways.{astray}
-use Rattle.joining.specs.Joining.{neighbours, theirBytes}
+use Rattle.statement.specs.Ways.{astray}
+use Rattle.statement.specs.Joining.{neighbours, theirBytes}
 use Rattle.statement.specs.Moving as moving
-use Rattle.statement.specs.Moving.{passes, restsAt, rests, restsUnless, signalled, behind, movedBy}
+use Rattle.statement.specs.Moving.{goesOn, restsAt, rests, restsUnless, signalled, afterPlace, movedBy}
 use Rattle.record.specs.Logging.{recordOf, nextCount}
-use Rattle.outcome.specs.declared.Outcome.the-variants.{Recorded}
-use Rattle.outcome.specs.Saying.{outcomeOf, pausedBy, countedBy}
-use Rattle.turn.specs.Writing.{bytesOf}
+use Rattle.statement.specs.declared.outcome.Outcome.the-variants.{Recorded}
+use Rattle.statement.specs.Saying.{outcomeOf, pausedBy, countedBy}
+use Rattle.runner.specs.Writing.{writesFor}
 use Rattle.bounded.proofs.Moves.{Own}
 use Rattle.running.specs.Running as script
 use Rattle.running.specs.Running.{Box, forNothing, forTicks, forBytes, forData, forSignal, on, unlessZero, unlessHolds, does}
@@ -41,13 +41,13 @@ use Rattle.running.proofs.Alike.{Waits, Related}
 -- what a process of the box comes to by its cell c, and what the script's comes to by the statement at its front
 pub record Does (cells pool : List ℕ) (first end : ℕ) (counts : List ℕ) (b : Box) (p : Process) (q : script.Process) (c : Cell) : Type 0 where
   pub statement : Statement
-  pub behind : List Statement
-  pub front : from cells pool end (p .place) ≡ statement ∷ behind
+  pub coming : List Statement
+  pub front : from cells pool end (p .place) ≡ statement ∷ coming
   pub process : Related cells pool first end (set counts (p .place) (countedBy (getD counts (p .place) 0) c)) (movedBy cells (b .levels) p c .process)
-      (does b q behind statement .process)
-  pub paused : pausedBy (b .paused) c ≡ does b q behind statement .paused
-  pub bytes : bytesOf pool (b .reading) (getD counts (p .place) 0) c ≡ does b q behind statement .bytes
-  pub says : outcomeOf (length (bytesOf pool (b .reading) (getD counts (p .place) 0) c)) c ≡ does b q behind statement .says
+      (does b q coming statement .process)
+  pub paused : pausedBy (b .paused) c ≡ does b q coming statement .paused
+  pub bytes : writesFor pool (b .reading) (getD counts (p .place) 0) c ≡ does b q coming statement .bytes
+  pub says : outcomeOf (length (writesFor pool (b .reading) (getD counts (p .place) 0) c)) c ≡ does b q coming statement .says
 
 module _ (cells pool : List ℕ) (first end : ℕ) (own : Own cells pool end) (long : dataLimit ≤ length pool) (counts : List ℕ) (b : Box) (p : Process) (q : script.Process)
     (r : Related cells pool first end counts p q) (low : first ≤ p .place) (live : p .place < end) (few : p .depth ≤ loopLimit)
@@ -62,10 +62,10 @@ module _ (cells pool : List ℕ) (first end : ℕ) (own : Own cells pool end) (l
   Alike = Related cells pool first end counts
 
   -- on to the next statement; or to a wait, unless a test says on
-  over : Alike (passes p .process) (on q (to (i + 1)) forNothing)
+  over : Alike (goesOn p .process) (on q (to (i + 1)) forNothing)
   over = passes-on cells pool first end (own .inside) counts p q r few left back
 
-  rests-unless : (t : Bool) (w : Wait) (v : script.Wait) → Waits pool (to (i + 1)) w v → Alike (cond t (passes p) (rests p w) .process) (on q (to (i + 1)) (cond t forNothing v))
+  rests-unless : (t : Bool) (w : Wait) (v : script.Wait) → Waits pool (to (i + 1)) w v → Alike (cond t (goesOn p) (rests p w) .process) (on q (to (i + 1)) (cond t forNothing v))
   rests-unless = either cells pool first end (own .inside) counts p q r few left back
 
   -- ---- a wait for data, and its neighbours with it
@@ -100,7 +100,7 @@ module _ (cells pool : List ℕ) (first end : ℕ) (own : Own cells pool end) (l
   log-one j z h e = ap length (from-one cells pool end (own .inside) j h (rw e))
 
   log-on : (s : Span) → decoded (getD cells i 0) ≡ Log s →
-      Related cells pool first end (set counts i (nextCount place-count)) (passes p .process) (script.logged q (to (i + 1)))
+      Related cells pool first end (set counts i (nextCount place-count)) (goesOn p .process) (script.logged q (to (i + 1)))
   unfolding script.logged statementOf awaits
   log-on s e = record {
     ends = over .ends;
@@ -131,12 +131,12 @@ module _ (cells pool : List ℕ) (first end : ℕ) (own : Own cells pool end) (l
   by-one : (c : Cell) → decoded (getD cells i 0) ≡ c → awaits (statementOf pool c) ≡ nothing → countedBy place-count c ≡ place-count →
       Alike (movedBy cells (b .levels) p c .process) (does b q (to (i + 1)) (statementOf pool c) .process) →
       pausedBy (b .paused) c ≡ does b q (to (i + 1)) (statementOf pool c) .paused →
-      bytesOf pool (b .reading) place-count c ≡ does b q (to (i + 1)) (statementOf pool c) .bytes →
-      outcomeOf (length (bytesOf pool (b .reading) place-count c)) c ≡ does b q (to (i + 1)) (statementOf pool c) .says →
+      writesFor pool (b .reading) place-count c ≡ does b q (to (i + 1)) (statementOf pool c) .bytes →
+      outcomeOf (length (writesFor pool (b .reading) place-count c)) c ≡ does b q (to (i + 1)) (statementOf pool c) .says →
       Does cells pool first end counts b p q c
   by-one c e a n m x y z = record {
     statement = statementOf pool c;
-    behind = to (i + 1);
+    coming = to (i + 1);
     front = rw e at (from-one cells pool end (own .inside) i live (rw e a));
     process = rw (n, set-getD counts i 0) m;
     paused = x;
@@ -145,12 +145,12 @@ module _ (cells pool : List ℕ) (first end : ℕ) (own : Own cells pool end) (l
   }
 
   data-cell : (s : Span) → decoded (getD cells i 0) ≡ WaitData s → movedBy cells (b .levels) p (WaitData s) .found ≡ true → Does cells pool first end counts b p q (WaitData s)
-  unfolding statementOf countedBy movedBy does pausedBy bytesOf outcomeOf
+  unfolding statementOf countedBy movedBy does pausedBy writesFor outcomeOf
   data-cell s e f =
       let d : List ℕ = take (s .count + theirBytes words) (drop (s .from) pool) in
-      let same : behind cells p ≡ words = ap (λ (x : ℕ). slice (i + 1) x cells) (r .ends) in
+      let same : afterPlace cells p ≡ words = ap (λ (x : ℕ). slice (i + 1) x cells) (r .ends) in
       let fits = own .fits i live in
-      let m : Alike (moving.awaits p s (neighbours (behind cells p)) (theirBytes (behind cells p)) .process) (on q (to (i + 1 + neighbours words)) (forData d [])) =
+      let m : Alike (moving.awaits p s (neighbours (afterPlace cells p)) (theirBytes (afterPlace cells p)) .process) (on q (to (i + 1 + neighbours words)) (forData d [])) =
       subst
       (λ (ws : List ℕ). moving.awaits p s (neighbours ws) (theirBytes ws) .found ≡ true →
       Alike (moving.awaits p s (neighbours ws) (theirBytes ws) .process) (on q (to (i + 1 + neighbours words)) (forData d [])))
@@ -158,7 +158,7 @@ module _ (cells pool : List ℕ) (first end : ℕ) (own : Own cells pool end) (l
       in
       record {
         statement = waitData d;
-        behind = to (i + 1 + neighbours words);
+        coming = to (i + 1 + neighbours words);
         front = from-data cells pool end (own .inside) i (fits .from) s live (fits .fit) e;
         process = rw (set-getD counts i 0) m;
         paused = refl;
@@ -167,12 +167,12 @@ module _ (cells pool : List ℕ) (first end : ℕ) (own : Own cells pool end) (l
       }
 
   log-cell : (s : Span) → decoded (getD cells i 0) ≡ Log s → Does cells pool first end counts b p q (Log s)
-  unfolding statementOf awaits countedBy movedBy does pausedBy bytesOf outcomeOf
+  unfolding statementOf awaits countedBy movedBy does pausedBy writesFor outcomeOf
   log-cell s e =
       let count : place-count ≡ q .counts (length (to (i + 1))) = sym (r .counted i s low live e) in
       record {
         statement = log (dataAt pool s);
-        behind = to (i + 1);
+        coming = to (i + 1);
         front = rw e at (from-one cells pool end (own .inside) i live (rw e));
         process = log-on s e;
         paused = refl;
@@ -181,7 +181,7 @@ module _ (cells pool : List ℕ) (first end : ℕ) (own : Own cells pool end) (l
       }
 
   pub by-cell : (c : Cell) → decoded (getD cells i 0) ≡ c → movedBy cells (b .levels) p c .found ≡ true → Does cells pool first end counts b p q c
-  unfolding statementOf awaits countedBy movedBy does pausedBy bytesOf outcomeOf restsUnless unlessZero unlessHolds signalled
+  unfolding statementOf awaits countedBy movedBy does pausedBy writesFor outcomeOf restsUnless unlessZero unlessHolds signalled
   by-cell Nothing e f = true-is-false (sym f)
   by-cell (Send s) e f = by-one (Send s) e refl refl over refl refl refl
   by-cell (Loop n) e f = by-one (Loop n) e refl refl (opens-on cells pool first end (own .inside) counts p q r few left back n f) refl refl refl

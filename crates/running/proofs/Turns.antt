@@ -13,11 +13,11 @@ use Rattle.process.specs.declared.Wait.{Wait}
 use Rattle.process.specs.declared.Wait.the-variants.{Over}
 use Rattle.process.specs.declared.Process.{Process}
 use Rattle.process.specs.Waiting.{ready, withWait}
-use Rattle.process.specs.Events.{any}
+use Rattle.process.specs.State.{any}
 use Rattle.runner.specs.Draining.{lowest, nobody}
 use Rattle.bounded.specs.Demand3.{firstOf, endOf}
 use Rattle.running.specs.Running as script
-use Rattle.running.specs.Running.{Box, Next, idle, statement, isStatement, next, Turn, none, did, later, takes, turn, does, waiting, begins}
+use Rattle.running.specs.Running.{Box, Next, idle, statement, isStatement, next, Turn, none, did, later, takes, turn, does, waiting, atFirst}
 use Rattle.running.specs.Neighbours as neighbours
 use Rattle.running.proofs.From.{from}
 use Rattle.running.proofs.Alike.{Waits, Related, related-ready, related-event}
@@ -70,7 +70,7 @@ module _ (t : Table) (counts : List ℕ) where
 
   -- ---- each by itself
 
-  pub alike-at : (i : ℕ) (ps : List Process) (qs : List script.Process) → Alikes t counts i ps qs → (k : ℕ) → k < length qs → Alike t (i + k) counts (getD ps k nobody) (getD qs k (begins []))
+  pub alike-at : (i : ℕ) (ps : List Process) (qs : List script.Process) → Alikes t counts i ps qs → (k : ℕ) → k < length qs → Alike t (i + k) counts (getD ps k nobody) (getD qs k (atFirst []))
   alike-at i ps [] h k l = absurd (omega arith)
   alike-at i [] (q ∷ qs) h k l = absurd h
   alike-at i (p ∷ ps) (q ∷ qs) h zero l = let z : i + 0 ≡ i = omega arith in rw z (h .0)
@@ -106,7 +106,7 @@ module _ (t : Table) (counts : List ℕ) where
 
   -- ---- the turn
 
-  -- the lowest that is ready, `low` behind number i
+  -- the lowest that is ready, `low` after number i
   pub record One (b : Box) (i : ℕ) (ps : List Process) (qs : List script.Process) (low : ℕ) : Type 0 where
     pub process : script.Process
     pub there : low < length ps

@@ -10,7 +10,7 @@ use borrow.Author.Tests.{leb-false, lt-leb, ne-eqb}
 use Rattle.reader.proofs.Tests.{true-is-false, by-cases}
 use Rattle.language.specs.Script.{Statement}
 use Rattle.process.specs.Waiting.{sameLevel}
-use Rattle.process.specs.Events.{any}
+use Rattle.process.specs.State.{any}
 use Rattle.runner.specs.Calls.{Call, start, tick, byte, reading, level, drain}
 use Rattle.running.specs.Running.{Wait, forNothing, forTicks, forBytes, forClock, forSignal, ticked, gets, read, levelled, unlessZero, unlessHolds, Process, Box, does}
 use Rattle.running.specs.Waits.{eventOn, since, count, isTick, isReceived, readingMatches, setsLevel, EndsAtLast, EndsAtFirst, WaitsEnd, WaitsBegin}

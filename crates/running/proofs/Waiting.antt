@@ -5,9 +5,9 @@ use mathlib.Core.List.{List, [], _∷_, map}
 use Prim.Native.Nat.{ℕ, zero, suc}
 use Rattle.reader.proofs.Tests.{true-is-false}
 use Rattle.language.specs.Script.{Script}
-use Rattle.process.specs.Events.{any}
+use Rattle.process.specs.State.{any}
 use Rattle.runner.specs.Calls.{Call, start, tick, byte, reading, level, drain}
-use Rattle.bounded.specs.Replies.{took, isEvent}
+use Rattle.bounded.specs.Replies.{wasTaken, isEvent}
 use Rattle.running.specs.Running.{Wait, forNothing, Process, Box, ready, waiting, called}
 use Rattle.running.specs.Waits.{eventOn, since}
 use Rattle.running.specs.Called.{process, boxAfter, isStart, takenIn, waitsOn, WaitsThrough}
@@ -23,7 +23,7 @@ acts-on f e (p ∷ ps) (suc k) = acts-on f e ps k
 
 module _ (s : Script) (b : Box) (k : ℕ) (q : Call) where
   abbrev taken : Bool
-  taken = took (called s q b .reply)
+  taken = wasTaken (called s q b .reply)
 
   abbrev after : Process
   after = process k (called s q b .box)
@@ -35,7 +35,7 @@ module _ (s : Script) (b : Box) (k : ℕ) (q : Call) where
   event-acts : isEvent q ≡ true → Acts taken
   event-acts e = go taken refl
     where
-      go : (u : Bool) → took (called s q b .reply) ≡ u → Acts u
+      go : (u : Bool) → wasTaken (called s q b .reply) ≡ u → Acts u
       go true t = ap (of k) (event-taken s b q e .acts t) ∙ acts-on (eventOn q) (nothing-stays q) (b .processes) k
       go false t = ap (process k) (event-taken s b q e .unaltered t)
 
@@ -56,7 +56,7 @@ unfolding boxAfter takenIn waitsOn since
 goes-through s k [] b n w = refl
 goes-through s k (q ∷ qs) b n w =
     let d = neither (isStart q) (any isStart qs) n in
-    go (ready (process k b)) refl w (isEvent q && took (called s q b .reply)) (λ h. call-acts s b k q (d .0) h) (goes-through s k qs (called s q b .box) (d .1))
+    go (ready (process k b)) refl w (isEvent q && wasTaken (called s q b .reply)) (λ h. call-acts s b k q (d .0) h) (goes-through s k qs (called s q b .box) (d .1))
   where
     go : (r : Bool) → ready (process k b) ≡ r → cond r false (waitsOn s k (called s q b .box) qs) ≡ true → (u : Bool) →
         (ready (process k b) ≡ false → process k (called s q b .box) ≡ waiting (λ x. cond u (eventOn q x) x) (process k b)) →

@@ -13,13 +13,13 @@ use Rattle.language.specs.Script.{Statement}
 use Rattle.process.specs.declared.Wait.{Wait}
 use Rattle.process.specs.declared.Process.{Process}
 use Rattle.process.specs.Waiting.{awake}
-use Rattle.loops.specs.Ways.{astray, movedTo, goes}
-use Rattle.loops.specs.Loops.{opened, again, pass, closed}
-use Rattle.statement.specs.Moving.{passes, rests}
+use Rattle.statement.specs.Ways.{astray, movedTo, goes}
+use Rattle.statement.specs.Loops.{opened, backTo, pass, closed}
+use Rattle.statement.specs.Moving.{goesOn, rests}
 use Rattle.bounded.proofs.Ahead.{opensOf}
 use Rattle.bounded.proofs.Opens.{opens-more, opens-less}
 use Rattle.running.specs.Running as script
-use Rattle.running.specs.Running.{forNothing, on, within}
+use Rattle.running.specs.Running.{forNothing, on, inLoops}
 use Rattle.running.proofs.From.{from}
 use Rattle.running.proofs.Alike.{Waits, Related, loopOf, awake-waits}
 
@@ -46,39 +46,39 @@ module _ (cells pool : List ℕ) (first end : ℕ) (inside : end ≤ length cell
   goes-on j d ls bs lps e =
       moves j d ls bs (awake j (p .end)) lps forNothing e (rw (r .ends) (awake-waits cells pool end (inside) j))
 
-  pub passes-on : Alike (passes p .process) (on q (to (i + 1)) forNothing)
+  pub passes-on : Alike (goesOn p .process) (on q (to (i + 1)) forNothing)
   passes-on = goes-on (i + 1) (p .depth) (p .left) (p .back) (q .loops) (r .loops)
 
   pub rests-on : (w : Wait) (v : script.Wait) → Waits pool (to (i + 1)) w v → Alike (rests p w .process) (on q (to (i + 1)) v)
   rests-on w v h = moves (i + 1) (p .depth) (p .left) (p .back) w (q .loops) v (r .loops) h
 
-  pub either : (t : Bool) (w : Wait) (v : script.Wait) → Waits pool (to (i + 1)) w v → Alike (cond t (passes p) (rests p w) .process) (on q (to (i + 1)) (cond t forNothing v))
+  pub either : (t : Bool) (w : Wait) (v : script.Wait) → Waits pool (to (i + 1)) w v → Alike (cond t (goesOn p) (rests p w) .process) (on q (to (i + 1)) (cond t forNothing v))
   either true w v h = passes-on
   either false w v h = rests-on w v h
 
   -- ---- loops
 
-  pub opens-on : (n : ℕ) → opened p (i + 1) n .found ≡ true → Alike (opened p (i + 1) n .process) (within q (to (i + 1)) (record { left = n; body = to (i + 1) } ∷ q .loops))
+  pub opens-on : (n : ℕ) → opened p (i + 1) n .found ≡ true → Alike (opened p (i + 1) n .process) (inLoops q (to (i + 1)) (record { left = n; body = to (i + 1) } ∷ q .loops))
   unfolding opened
   opens-on n = go (ltb (p .depth) loopLimit) refl
     where
       go : (t : Bool) → ltb (p .depth) loopLimit ≡ t →
           cond t (goes p (i + 1) (p .depth + 1) (set (p .left) (p .depth) n) (set (p .back) (p .depth) (i + 1))) (astray p) .found ≡ true →
           Alike (cond t (goes p (i + 1) (p .depth + 1) (set (p .left) (p .depth) n) (set (p .back) (p .depth) (i + 1))) (astray p) .process)
-          (within q (to (i + 1)) (record { left = n; body = to (i + 1) } ∷ q .loops))
+          (inLoops q (to (i + 1)) (record { left = n; body = to (i + 1) } ∷ q .loops))
       go true e f =
           let lt = ltb-true (p .depth) loopLimit e in
           goes-on (i + 1) (p .depth + 1) (set (p .left) (p .depth) n) (set (p .back) (p .depth) (i + 1)) (record { left = n; body = to (i + 1) } ∷ q .loops)
           (rw (opens-more (p .depth) n (i + 1) (p .left) (p .back) (omega arith) (omega arith), r .loops))
       go false e f = true-is-false (sym f)
 
-  again-on : (l : ℕ) (ls : List ℕ) (lps : List script.Loop) → lps ≡ map (loopOf cells pool end) (opensOf (p .depth) ls (p .back)) → again p l ls .found ≡ true →
-      Alike (again p l ls .process) (within q (to l) lps)
-  unfolding again
+  again-on : (l : ℕ) (ls : List ℕ) (lps : List script.Loop) → lps ≡ map (loopOf cells pool end) (opensOf (p .depth) ls (p .back)) → backTo p l ls .found ≡ true →
+      Alike (backTo p l ls .process) (inLoops q (to l) lps)
+  unfolding backTo
   again-on l ls lps e = go (ltb l (p .end))
     where
       go : (t : Bool) → cond t (goes p l (p .depth) ls (p .back)) (astray p) .found ≡ true →
-          Alike (cond t (goes p l (p .depth) ls (p .back)) (astray p) .process) (within q (to l) lps)
+          Alike (cond t (goes p l (p .depth) ls (p .back)) (astray p) .process) (inLoops q (to l) lps)
       go true f = goes-on l (p .depth) ls (p .back) lps e
       go false f = true-is-false (sym f)
 
@@ -101,9 +101,9 @@ module _ (cells pool : List ℕ) (first end : ℕ) (inside : end ≤ length cell
     unfolding pass script.closed opensOf
     pass-on = go (eqb n 0) (eqb n 1)
       where
-        go : (t u : Bool) → cond t (again p body (p .left)) (cond u (goes p (i + 1) d (p .left) (p .back)) (again p body (set (p .left) d (n - 1)))) .found ≡ true →
-            Alike (cond t (again p body (p .left)) (cond u (goes p (i + 1) d (p .left) (p .back)) (again p body (set (p .left) d (n - 1)))) .process)
-            (cond t (within q (to body) (l ∷ outer)) (cond u (within q (to (i + 1)) outer) (within q (to body) (record { left = n - 1; body = to body } ∷ outer))))
+        go : (t u : Bool) → cond t (backTo p body (p .left)) (cond u (goes p (i + 1) d (p .left) (p .back)) (backTo p body (set (p .left) d (n - 1)))) .found ≡ true →
+            Alike (cond t (backTo p body (p .left)) (cond u (goes p (i + 1) d (p .left) (p .back)) (backTo p body (set (p .left) d (n - 1)))) .process)
+            (cond t (inLoops q (to body) (l ∷ outer)) (cond u (inLoops q (to (i + 1)) outer) (inLoops q (to body) (record { left = n - 1; body = to body } ∷ outer))))
         go true u f = again-on body (p .left) (l ∷ outer) (rw e) f
         go false true f = goes-on (i + 1) d (p .left) (p .back) outer refl
         go false false f =

@@ -3,27 +3,28 @@
 use mathlib.Core.Path.{_≡_}
 use mathlib.Core.Bool.{Bool, true, false, cond, _&&_}
 use mathlib.Core.List.{List, [], _∷_, _++_, map}
-use Prim.Native.Nat.{ℕ, zero, suc, _+_, _%_, _<_}
+use Prim.Native.Nat.{ℕ, zero, suc, _+_, _%_, _≤_, _<_}
 use lib.ListN.{length, getD}
-use lib.Dec.{eqb, ltb}
+use lib.Dec.{eqb}
 use Rattle.language.specs.Script.{Statement, send, loop, end, waitTime, waitData, waitByte, waitClock, waitSignal, rts, log, fchange, pause, resume, nop, Script}
 use Rattle.process.specs.declared.Received.the-variants as received
 use Rattle.process.specs.declared.Copies.{Copies}
-use Rattle.process.specs.Events.{any}
-use Rattle.outcome.specs.declared.Outcome.{Outcome}
-use Rattle.outcome.specs.declared.Outcome.the-variants.{Quiet, Sent, Recorded, Rts, Fchange, Pause, Resume, Plain, Refused}
+use Rattle.process.specs.State.{any}
+use Rattle.statement.specs.declared.outcome.Outcome.{Outcome}
+use Rattle.statement.specs.declared.outcome.Outcome.the-variants.{Quiet, Sent, Recorded, Rts, Fchange, Pause, Resume, Plain, Refused}
 use Rattle.record.specs.Logging.{recordOf}
 use Rattle.runner.specs.Calls as calls
 use Rattle.runner.specs.Calls.{Call, start, tick, byte, reading, level, drain, Reply, event, outcome}
-use Rattle.bounded.specs.Replies.{took, isEvent}
-use Rattle.running.specs.Running.{Process, Box, Next, idle, statement, next, ready, busy, Deed, does, Called, times, waiting, begins, called}
+use Rattle.bounded.specs.Replies.{wasTaken, isEvent}
+use Rattle.running.specs.Running.{Process, Box, Next, idle, statement, next, ready, busy, Deed, does, Called, timesRecorded, waiting, atFirst, called}
 use Rattle.running.specs.Waits.{eventOn, since}
+use Rattle.language.specs.Limits.{drainLeast, wide}
 
 -- ---- some calls, one after the other
 
 -- process k of a box, from 0; one that it does not have has no statement
 abbrev pub process : ℕ → Box → Process
-process k b = getD (b .processes) k (begins [])
+process k b = getD (b .processes) k (atFirst [])
 
 -- the box after them
 unfoldable pub boxAfter : Script → Box → List Call → Box
@@ -44,7 +45,7 @@ unfoldable pub takenIn : Script → Box → List Call → List Call
 takenIn s b [] = []
 takenIn s b (q ∷ qs) =
     let rest = takenIn s (called s q b .box) qs in
-    cond (isEvent q && took (called s q b .reply)) (q ∷ rest) rest
+    cond (isEvent q && wasTaken (called s q b .reply)) (q ∷ rest) rest
 
 -- process k is ready before none of them
 unfoldable pub waitsOn : Script → ℕ → Box → List Call → Bool
@@ -56,9 +57,9 @@ waitsOn s k b (q ∷ qs) = cond (ready (process k b)) false (waitsOn s k (called
 -- "An event is taken only when no process is ready." One that is not taken alters nothing; one that is acts on the wait of every process, and on nothing
 -- else of it. A byte too, however often it is recorded: "It counts for waits in every case."
 pub record EventTaken (b : Box) (q : Call) (r : Called) : Type 0 where
-  pub only : took (r .reply) ≡ true → busy b ≡ false
-  pub unaltered : took (r .reply) ≡ false → r .box ≡ b
-  pub acts : took (r .reply) ≡ true → r .box .processes ≡ map (waiting (eventOn q)) (b .processes)
+  pub only : wasTaken (r .reply) ≡ true → busy b ≡ false
+  pub unaltered : wasTaken (r .reply) ≡ false → r .box ≡ b
+  pub acts : wasTaken (r .reply) ≡ true → r .box .processes ≡ map (waiting (eventOn q)) (b .processes)
 
 -- "since it began": through any calls but a start, a process that is not ready has its wait changed by the events that are taken, one after the other, and
 -- stays otherwise as it was, whatever the other processes do
@@ -67,7 +68,7 @@ pub record WaitsThrough (s : Script) (b : Box) (k : ℕ) (qs : List Call) : Type
 
 -- ---- drains
 
--- process p of some has its turn: those before it are not ready, and it is, with the statement x and ss behind it
+-- process p of some has its turn: those before it are not ready, and it is, with the statement x and ss after it
 pub record HasTurn (ps before : List Process) (p : Process) (behind : List Process) (x : Statement) (ss : List Statement) : Type 0 where
   pub parts : ps ≡ before ++ (p ∷ behind)
   pub lowest : any ready before ≡ false
@@ -88,7 +89,7 @@ doing b ps d = record { box = record { processes = ps; reading = b .reading; lev
 
 -- "A drain does one statement of the lowest-numbered ready process": the other processes stay as they are. It "says what it sent, recorded": all bytes of
 -- the statement and no other, and of LOG the record of its own text with its own count. It "says quiet exactly when none is ready", and alters nothing then
-pub record OneStatement (s : Script) (b : Box) (room : ℕ) (wide : 127 < room) : Type 0 where
+pub record OneStatement (s : Script) (b : Box) (room : ℕ) (enough : drainLeast ≤ room) : Type 0 where
   pub one : (before : List Process) (p : Process) (behind : List Process) (x : Statement) (ss : List Statement) → HasTurn (b .processes) before p behind x ss →
       called s (drain room) b ≡ doing b (before ++ (does b p ss x .process ∷ behind)) (does b p ss x)
   pub sends : (before : List Process) (p : Process) (behind : List Process) (bs : List ℕ) (ss : List Statement) → HasTurn (b .processes) before p behind (send bs) ss →
@@ -138,7 +139,7 @@ pausedThen s b (q ∷ qs) p = pausedThen s (called s q b .box) qs (pausedAfter q
 pub record RecordedRight (s : Script) (b : Box) (qs : List Call) : Type 0 where
   pub paused : boxAfter s b qs .paused ≡ pausedThen s b qs (b .paused)
   pub copied : (x : ℕ) (c : Copies) → called s (byte x) (boxAfter s b qs) .reply ≡ calls.received (received.Took c) →
-      c .count ≡ times (s .settings) (pausedThen s b qs (b .paused)) x
+      c .count ≡ timesRecorded (s .settings) (pausedThen s b qs (b .paused)) x
 
 -- ---- LOG counts
 
@@ -159,7 +160,7 @@ isLog pause = false
 isLog resume = false
 isLog nop = false
 
--- a process does next the LOG that has n statements behind it
+-- a process does next the LOG that has n statements after it
 unfoldable pub logsNext : ℕ → Next → Bool
 logsNext n idle = false
 logsNext n (statement s ss) = isLog s && eqb n (length ss)
@@ -177,14 +178,14 @@ logs k n tick b = false
 logs k n (byte x) b = false
 logs k n (reading r) b = false
 logs k n (level m on) b = false
-logs k n (drain room) b = ltb 127 room && logsIn k n (b .processes)
+logs k n (drain room) b = wide room && logsIn k n (b .processes)
 
 -- how often some calls do so
 unfoldable pub loggedIn : Script → ℕ → ℕ → Box → List Call → ℕ
 loggedIn s k n b [] = 0
 loggedIn s k n b (q ∷ qs) = cond (logs k n q b) 1 0 + loggedIn s k n (called s q b .box) qs
 
--- "Each LOG statement has its own `@c` .. and 4294967295 is followed by 0": the count of the LOG of process k with n statements behind it is how often
+-- "Each LOG statement has its own `@c` .. and 4294967295 is followed by 0": the count of the LOG of process k with n statements after it is how often
 -- that very statement was done since, and no other, whatever its text; "from 0" after a start
 pub record CountsOwn (s : Script) (b : Box) (qs : List Call) : Type 0 where
   pub counted : any isStart qs ≡ false → (k n : ℕ) → process k b .counts n < 4294967296 →

@@ -32,7 +32,7 @@ joinTwo (bytes bs) (bytes cs) s t ss = waitData (bs ++ cs) ∷ ss
 joinTwo (bytes bs) nothing s t ss = s ∷ t ∷ ss
 joinTwo nothing w s t ss = s ∷ t ∷ ss
 
--- a statement in front of the joined statements behind it
+-- a statement in front of the joined statements after it
 unfoldable pub joinTo : Statement → List Statement → List Statement
 joinTo s [] = s ∷ []
 joinTo s (t ∷ ss) = joinTwo (awaits s) (awaits t) s t ss

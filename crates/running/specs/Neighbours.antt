@@ -9,23 +9,24 @@ use Prim.Native.Nat.{ℕ, suc, _*_, _≤_, _<_}
 use lib.ListN.{length, getD}
 use lib.Seq.{slice}
 use lib.Dec.{eqb, ltb}
-use Rattle.runs.specs.Cap.{over}
+use Rattle.figures.specs.Cap.{over}
 use Rattle.language.specs.declared.Table.{Table}
-use Rattle.language.specs.Limits.{processLimit}
+use Rattle.language.specs.Limits.{processLimit, signals, wide}
 use Rattle.language.specs.Script.{Script, processes}
 use Rattle.language.specs.Table.{settingsOf, scriptOf}
-use Rattle.process.specs.Events as events
-use Rattle.process.specs.Events.{every, readingRight}
+use Rattle.process.specs.State as states
+use Rattle.events.specs.Events.{readingRight}
 use Rattle.runner.specs.Draining as draining
 use Rattle.runner.specs.Calls as runner
 use Rattle.runner.specs.Calls.{Call, start, tick, byte, reading, level, drain, Reply, event, received, outcome}
 use Rattle.bounded.specs.Replies as bounded
-use Rattle.bounded.specs.Replies.{Compiles, did, took, isEvent}
+use Rattle.bounded.specs.Replies.{Compiles, did, wasTaken, isEvent}
 use Rattle.bounded.specs.Demand3.{fresh, firstOf, endOf}
 use Rattle.bounded.specs.Demand3 as demand3
 use Rattle.running.specs.Joined.{done}
 use Rattle.running.specs.Running.{Process, Box, ready, busy, called}
 use Rattle.running.specs.Called.{process}
+use Rattle.reader.specs.Bytes.{all}
 
 -- ---- the two runs
 
@@ -38,7 +39,7 @@ pub record Kind (B X : Type 0) : Type 0 where
   pub lowest : B → ℕ
   pub kept : ℕ → B → X
 
--- a start or an event, and the drains behind it, by the bytes of their buffers
+-- a start or an event, and the drains after it, by the bytes of their buffers
 pub record Fed : Type 0 where
   pub call : Call
   pub rooms : List ℕ
@@ -47,7 +48,7 @@ pub record Fed : Type 0 where
 abbrev pub callsOf : List Fed → List Call
 callsOf fs = map (λ (f : Fed). f .call) fs
 
--- what is compared, of a start or an event: the replies of process k in the drains behind it, and what is kept of process k after them
+-- what is compared, of a start or an event: the replies of process k in the drains after it, and what is kept of process k after them
 pub record Part (X : Type 0) : Type 0 where
   pub replies : List Reply
   pub kept : X
@@ -64,11 +65,11 @@ module _ {B X : Type 0} (m : Kind B X) where
   drainedBy b [] = b
   drainedBy b (room ∷ rooms) = drainedBy (m .after (drain room) b) rooms
 
-  -- and after a call with the drains behind it
+  -- and after a call with the drains after it
   abbrev pub fedWith : Fed → B → B
   fedWith f b = drainedBy (m .after (f .call) b) (f .rooms)
 
-  -- "each at a quiet moment, drained to quiet after it": behind the drains of the start and of each event no process is ready
+  -- "each at a quiet moment, drained to quiet after it": after the drains of the start and of each event no process is ready
   unfoldable pub quietly : B → List Fed → Bool
   quietly b [] = true
   quietly b (f ∷ fs) = not (m .busy (fedWith f b)) && quietly (fedWith f b) fs
@@ -137,7 +138,7 @@ ofTable t =
     record {
       after = λ q b. bounded.called t q b .box;
       reply = λ q b. bounded.called t q b .reply;
-      busy = λ b. events.busy (b .state);
+      busy = λ b. states.busy (b .state);
       lowest = λ b. draining.lowest (b .state .processes);
       kept = λ k b. countsOf t k (b .counts);
     }
@@ -161,22 +162,18 @@ BoxesApart =
 
 -- ---- document 02's own sentence
 
--- a buffer of 128 bytes or more
-abbrev pub wide : ℕ → Bool
-wide room = ltb 127 room
-
 module _ {B X : Type 0} (m : Kind B X) where
   -- "each accepted", and the start too
   unfoldable pub accepted : B → List Fed → Bool
   accepted b [] = true
-  accepted b (f ∷ fs) = took (m .reply (f .call) b) && accepted (fedWith m f b) fs
+  accepted b (f ∷ fs) = wasTaken (m .reply (f .call) b) && accepted (fedWith m f b) fs
 
   -- events, each accepted at a quiet moment and drained to quiet with buffers that are large enough
   pub record AsAsked (b : B) (es : List Call) (fs : List Fed) : Type 0 where
     pub run : Run m b es fs
-    pub events : every isEvent es ≡ true
+    pub events : all isEvent es ≡ true
     pub taken : accepted b fs ≡ true
-    pub buffers : every (λ (f : Fed). every wide (f .rooms)) fs ≡ true
+    pub buffers : all (λ (f : Fed). all wide (f .rooms)) fs ≡ true
 
 -- "with equal f: settings that agree in process k"; each has it
 pub record Neighbours (t u : Table) (k : ℕ) : Type 0 where
@@ -204,8 +201,8 @@ enough = processLimit * over
 -- they leave no process ready, whatever calls came since the start
 abbrev pub Quiets : Type 0
 Quiets =
-    (text : List ℕ) (t : Table) (k : ℕ) → Compiles text t k → (b : runner.Box) (qs : List Call) → (rooms : List ℕ) → every wide rooms ≡ true → enough ≤ length rooms →
-    events.busy (drainedBy (ofTable t) (demand3.after t (fresh t b) qs .box) rooms .state) ≡ false
+    (text : List ℕ) (t : Table) (k : ℕ) → Compiles text t k → (b : runner.Box) (qs : List Call) → (rooms : List ℕ) → all wide rooms ≡ true → enough ≤ length rooms →
+    states.busy (drainedBy (ofTable t) (demand3.afterCalls t (fresh t b) qs .box) rooms .state) ≡ false
 
 -- an event whose reading or signal is in range: neither 22 nor 23
 abbrev pub inRange : Call → Bool
@@ -213,12 +210,12 @@ inRange start = false
 inRange tick = true
 inRange (byte x) = true
 inRange (reading r) = readingRight r
-inRange (level n on) = ltb n 5
+inRange (level n on) = ltb n signals
 inRange (drain room) = false
 
--- so every list of such events can be fed as No. 10 asks, with so many drains behind the start and behind each
+-- so every list of such events can be fed as No. 10 asks, with so many drains after the start and after each
 abbrev pub HasRuns : Type 0
 HasRuns =
-    (text : List ℕ) (t : Table) (k : ℕ) → Compiles text t k → (b : runner.Box) (es : List Call) → every inRange es ≡ true →
-    (rooms : List ℕ) → every wide rooms ≡ true → enough ≤ length rooms →
+    (text : List ℕ) (t : Table) (k : ℕ) → Compiles text t k → (b : runner.Box) (es : List Call) → all inRange es ≡ true →
+    (rooms : List ℕ) → all wide rooms ≡ true → enough ≤ length rooms →
     AsAsked (ofTable t) b es (map (λ (q : Call). record { call = q; rooms = rooms }) (start ∷ es))

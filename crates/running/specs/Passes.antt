@@ -16,7 +16,7 @@ pub record At (ss : List Statement) (ls : List Loop) (p : Process) : Type 0 wher
   pub loops : p .loops ≡ ls
   pub over : p .wait ≡ forNothing
 
--- its next statement is s, and behind it, whatever the box holds and once its wait is over, the rest is as claimed
+-- its next statement is s, and after it, whatever the box holds and once its wait is over, the rest is as claimed
 pub record Step (s : Statement) (claim : Process → Type 0) (p : Process) : Type 0 where
   pub behind : List Statement
   pub first : next p ≡ statement s behind
@@ -27,7 +27,7 @@ abbrev pub Comes : List Statement → List Statement → List Loop → Process �
 Comes [] ss ls = At ss ls
 Comes (s ∷ l) ss ls = Step s (Comes l ss ls)
 
--- some lines are done as the statements l: whatever comes behind them, a process goes through them by l and has the loops open that it had
+-- some lines are done as the statements l: whatever comes after them, a process goes through them by l and has the loops open that it had
 abbrev pub DoneAs : List Statement → List Statement → Type 0
 DoneAs lines l = (p : Process) (ss : List Statement) → p .wait ≡ forNothing → p .coming ≡ lines ++ ss → Comes l ss (p .loops) p
 

@@ -8,19 +8,21 @@ use Rattle.reader.specs.Bytes.{same}
 use Rattle.language.specs.Script.{Statement, send, loop, end, waitTime, waitData, waitByte, waitClock, waitSignal, rts, log, fchange, pause, resume, nop, Encode, unset, byte, Settings, Script}
 use Rattle.running.specs.Joined.{done}
 use Rattle.process.specs.declared.Reading.{Reading}
-use Rattle.process.specs.declared.Refusal.{Refusal}
-use Rattle.process.specs.declared.Refusal.the-variants.{Busy, BadReading, NoSuchSignal, SmallBuffer}
+use Rattle.process.specs.declared.RunRefusal.{RunRefusal}
+use Rattle.process.specs.declared.RunRefusal.the-variants.{Busy, BadReading, NoSuchSignal, SmallBuffer}
 use Rattle.process.specs.declared.Taken.the-variants as taken
 use Rattle.process.specs.declared.Received.the-variants as received
-use Rattle.outcome.specs.declared.Outcome.{Outcome}
-use Rattle.outcome.specs.declared.Outcome.the-variants.{Quiet, Sent, Recorded, Rts, Fchange, Pause, Resume, Plain, Refused}
+use Rattle.statement.specs.declared.outcome.Outcome.{Outcome}
+use Rattle.statement.specs.declared.outcome.Outcome.the-variants.{Quiet, Sent, Recorded, Rts, Fchange, Pause, Resume, Plain, Refused}
 use Rattle.process.specs.Waiting.{sameLevel}
-use Rattle.process.specs.Events.{any, readingRight}
-use Rattle.recording.specs.Recording.{oneOf}
+use Rattle.process.specs.State.{any}
+use Rattle.events.specs.Events.{readingRight}
+use Rattle.events.specs.Recording.{oneOf}
 use Rattle.record.specs.Logging.{recordOf, nextCount}
-use Rattle.starting.specs.Starting.{noReading}
+use Rattle.runner.specs.Starting.{noReading}
 use Rattle.runner.specs.Calls as calls
 use Rattle.runner.specs.Calls.{Call, start, tick, reading, level, drain, Reply, event, outcome}
+use Rattle.language.specs.Limits.{signals, wide}
 
 -- ---- what there is
 
@@ -38,7 +40,7 @@ pub data Wait : Type 0 where
   forSignal : ℕ → Bool → Wait
 
 -- a process: the statements still to come, its open loops, the innermost first, its wait; and how often each of its LOG statements has been done, by
--- the number of statements behind it
+-- the number of statements after it
 pub record Process : Type 0 where
   pub coming : List Statement
   pub loops : List Loop
@@ -54,7 +56,7 @@ pub record Box : Type 0 where
 
 -- ---- ready
 
--- what a process does next: a statement, with those behind it; or nothing now
+-- what a process does next: a statement, with those after it; or nothing now
 pub data Next : Type 0 where
   idle : Next
   statement : Statement → List Statement → Next
@@ -138,7 +140,7 @@ levelled m is (forSignal n on) = cond (eqb n m && sameLevel on is) forNothing (f
 
 -- ---- one statement
 
--- on to the statements behind, with a wait
+-- on to the statements after, with a wait
 abbrev pub on : Process → List Statement → Wait → Process
 on p ss w = record { coming = ss; loops = p .loops; wait = w; counts = p .counts }
 
@@ -151,22 +153,22 @@ unfoldable pub unlessHolds : Bool → ℕ → Bool → Wait
 unlessHolds is n on = cond (sameLevel on is) forNothing (forSignal n on)
 
 -- on to some statements, with other loops open
-abbrev pub within : Process → List Statement → List Loop → Process
-within p ss ls = record { coming = ss; loops = ls; wait = forNothing; counts = p .counts }
+abbrev pub inLoops : Process → List Statement → List Loop → Process
+inLoops p ss ls = record { coming = ss; loops = ls; wait = forNothing; counts = p .counts }
 
 -- one pass of a loop less
 abbrev pub fewer : Loop → Loop
 fewer l = record { left = l .left - 1; body = l .body }
 
--- "`#END` closes the innermost loop": back to its body for the next pass, or on behind it after the last; no accepted script has END with none open
+-- "`#END` closes the innermost loop": back to its body for the next pass, or on after it after the last; no accepted script has END with none open
 unfoldable pub closed : Process → List Statement → List Loop → Process
-closed p ss [] = within p ss []
+closed p ss [] = inLoops p ss []
 closed p ss (l ∷ ls) =
-    cond (eqb (l .left) 0) (within p (l .body) (l ∷ ls))
-    (cond (eqb (l .left) 1) (within p ss ls)
-    (within p (l .body) (fewer l ∷ ls)))
+    cond (eqb (l .left) 0) (inLoops p (l .body) (l ∷ ls))
+    (cond (eqb (l .left) 1) (inLoops p ss ls)
+    (inLoops p (l .body) (fewer l ∷ ls)))
 
--- "Each LOG statement has its own `@c`": one more for the LOG with so many statements behind it
+-- "Each LOG statement has its own `@c`": one more for the LOG with so many statements after it
 unfoldable pub logged : Process → List Statement → Process
 logged p ss =
     record {
@@ -191,10 +193,10 @@ deed b p o bs = record { process = p; paused = b .paused; says = o; bytes = bs }
 abbrev pub recorded : Box → Process → List ℕ → Deed
 recorded b p bs = deed b p (Recorded (record { bytes = length bs })) bs
 
--- what each statement of a process does, those behind it being given; "FCHANGE is taken to need no time"
+-- what each statement of a process does, those after it being given; "FCHANGE is taken to need no time"
 unfoldable pub does : Box → Process → List Statement → Statement → Deed
 does b p ss (send bs) = deed b (on p ss forNothing) (Sent (record { bytes = length bs })) bs
-does b p ss (loop n) = deed b (within p ss (record { left = n; body = ss } ∷ p .loops)) Plain []
+does b p ss (loop n) = deed b (inLoops p ss (record { left = n; body = ss } ∷ p .loops)) Plain []
 does b p ss end = deed b (closed p ss (p .loops)) Plain []
 does b p ss (waitTime n) = deed b (on p ss (unlessZero n (forTicks n))) Plain []
 does b p ss (waitData bs) = deed b (on p ss (forData bs [])) Plain []
@@ -220,7 +222,7 @@ unfoldable pub later : Process → Turn → Turn
 later p none = none
 later p (did ps paused o bs) = did (p ∷ ps) paused o bs
 
--- a process takes its turn, or one of those behind it does
+-- a process takes its turn, or one of those after it does
 unfoldable pub takes : Box → Process → List Process → Next → Turn → Turn
 takes b p ps idle rest = later p rest
 takes b p ps (statement s ss) rest =
@@ -251,8 +253,8 @@ timesBy unset x = 1
 timesBy (byte e) x = cond (eqb e x) 2 1
 
 -- "A received byte is recorded once; not at all if paused or in OMIT; in all other cases twice if it is the ENCODE byte."
-unfoldable pub times : Settings → Bool → ℕ → ℕ
-times s paused x = cond (paused || oneOf (s .omit) x) 0 (timesBy (s .encode) x)
+unfoldable pub timesRecorded : Settings → Bool → ℕ → ℕ
+timesRecorded s paused x = cond (paused || oneOf (s .omit) x) 0 (timesBy (s .encode) x)
 
 -- ---- the calls
 
@@ -269,7 +271,7 @@ abbrev pub having : List Process → Box → Box
 having ps b = record { processes = ps; reading = b .reading; levels = b .levels; paused = b .paused }
 
 -- "A refusal alters no state"
-abbrev pub refuses : Box → Refusal → Called
+abbrev pub refuses : Box → RunRefusal → Called
 refuses b r = record { box = b; reply = event (taken.Refused r) }
 
 -- an event that is taken
@@ -277,12 +279,12 @@ abbrev pub takesEvent : Box → Called
 takesEvent b = record { box = b; reply = event taken.Took }
 
 -- a process at its first statement
-abbrev pub begins : List Statement → Process
-begins ss = record { coming = ss; loops = []; wait = forNothing; counts = λ n. 0 }
+abbrev pub atFirst : List Statement → Process
+atFirst ss = record { coming = ss; loops = []; wait = forNothing; counts = λ n. 0 }
 
 -- "Start makes every process with statements ready"; "Levels start off"; WAIT DATA lines that follow each other are one statement
 unfoldable pub started : Script → Box
-started s = record { processes = map begins (done (s .body)); reading = noReading; levels = replicate 5 false; paused = false }
+started s = record { processes = map atFirst (done (s .body)); reading = noReading; levels = replicate signals false; paused = false }
 
 -- "An event is taken only when no process is ready." 24, then 21, 22, 23; 25 is never answered
 unfoldable pub called : Script → Call → Box → Called
@@ -292,7 +294,7 @@ called s (calls.byte x) b =
     cond (busy b) (record { box = b; reply = calls.received (received.Refused Busy) })
     (record {
       box = having (allWaiting (gets x) b) b;
-      reply = calls.received (received.Took (record { count = times (s .settings) (b .paused) x }));
+      reply = calls.received (received.Took (record { count = timesRecorded (s .settings) (b .paused) x }));
     })
 called s (reading r) b =
     cond (busy b) (refuses b Busy)
@@ -301,11 +303,11 @@ called s (reading r) b =
     (refuses b BadReading))
 called s (level n is) b =
     cond (busy b) (refuses b Busy)
-    (cond (ltb n 5)
+    (cond (ltb n signals)
     (takesEvent (record { processes = allWaiting (levelled n is) b; reading = b .reading; levels = set (b .levels) n is; paused = b .paused }))
     (refuses b NoSuchSignal))
 called s (drain room) b =
-    cond (ltb 127 room) (drained b (turn b (b .processes)))
+    cond (wide room) (drained b (turn b (b .processes)))
     (record { box = b; reply = outcome (Refused SmallBuffer) [] })
 
 -- the replies to some calls, one after the other

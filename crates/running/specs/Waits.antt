@@ -7,7 +7,7 @@ use lib.ListN.{length, getD}
 use lib.Dec.{eqb}
 use Rattle.language.specs.Script.{Statement, waitTime, waitData, waitByte, waitClock, waitSignal}
 use Rattle.process.specs.Waiting.{sameLevel}
-use Rattle.process.specs.Events.{any}
+use Rattle.process.specs.State.{any}
 use Rattle.runner.specs.Calls.{Call, start, tick, byte, reading, level, drain}
 use Rattle.running.specs.Running.{Wait, forNothing, forTicks, forBytes, forData, forClock, forSignal, endsIn, ticked, gets, units, read, levelled, Process, Box, does}
 
@@ -114,17 +114,17 @@ pub record WaitsEnd : Type 0 where
 
 -- ---- how a wait begins
 
--- a process after its statement, in front of those behind it
-abbrev pub waitOf : Box → Process → List Statement → Statement → Wait
-waitOf b p ss s = does b p ss s .process .wait
+-- a process after its statement, in front of those after it
+abbrev pub waitAt : Box → Process → List Statement → Statement → Wait
+waitAt b p ss s = does b p ss s .process .wait
 
 -- "Zero waits pass"; "Signal waits pass at once if the level holds"
 pub record WaitsBegin (b : Box) (p : Process) (ss : List Statement) : Type 0 where
-  pub ofTime : (n : ℕ) → 0 < n → waitOf b p ss (waitTime n) ≡ forTicks n
-  pub ofNoTime : waitOf b p ss (waitTime 0) ≡ forNothing
-  pub ofBytes : (n : ℕ) → 0 < n → waitOf b p ss (waitByte n) ≡ forBytes n
-  pub ofNoBytes : waitOf b p ss (waitByte 0) ≡ forNothing
-  pub ofData : (d : List ℕ) → waitOf b p ss (waitData d) ≡ forData d []
-  pub ofClock : (vs : List ℕ) → waitOf b p ss (waitClock vs) ≡ forClock vs
-  pub ofHolding : (n : ℕ) (on : Bool) → getD (b .levels) n false ≡ on → waitOf b p ss (waitSignal n on) ≡ forNothing
-  pub ofSignal : (n : ℕ) (on : Bool) → (getD (b .levels) n false ≡ on → ⊥) → waitOf b p ss (waitSignal n on) ≡ forSignal n on
+  pub ofTime : (n : ℕ) → 0 < n → waitAt b p ss (waitTime n) ≡ forTicks n
+  pub ofNoTime : waitAt b p ss (waitTime 0) ≡ forNothing
+  pub ofBytes : (n : ℕ) → 0 < n → waitAt b p ss (waitByte n) ≡ forBytes n
+  pub ofNoBytes : waitAt b p ss (waitByte 0) ≡ forNothing
+  pub ofData : (d : List ℕ) → waitAt b p ss (waitData d) ≡ forData d []
+  pub ofClock : (vs : List ℕ) → waitAt b p ss (waitClock vs) ≡ forClock vs
+  pub ofHolding : (n : ℕ) (on : Bool) → getD (b .levels) n false ≡ on → waitAt b p ss (waitSignal n on) ≡ forNothing
+  pub ofSignal : (n : ℕ) (on : Bool) → (getD (b .levels) n false ≡ on → ⊥) → waitAt b p ss (waitSignal n on) ≡ forSignal n on

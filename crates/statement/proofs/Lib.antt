@@ -1,1 +1,4 @@
 pub mod MoveCases
+pub mod LoopCases
+pub mod Neighbours
+pub mod Others

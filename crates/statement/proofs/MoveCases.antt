@@ -17,15 +17,15 @@ use Rattle.process.specs.declared.Wait.{Wait}
 use Rattle.process.specs.declared.Wait.the-variants.{Data, Signal}
 use Rattle.process.specs.declared.Process.{Process}
 use Rattle.process.specs.Waiting.{sameLevel}
-use Rattle.loops.specs.Ways.{astray}
-use Rattle.statement.specs.Moving.{passes, restsAt, rests, awaits, restsUnless, signalled, movedBy, cellAt, moved}
+use Rattle.statement.specs.Ways.{astray}
+use Rattle.statement.specs.Moving.{goesOn, restsAt, rests, awaits, restsUnless, signalled, movedBy, cellAt, moved}
 
 -- the variants of the code's last arm, by their tags
 abbrev passing : List ℕ
 passing = 1 ∷ 9 ∷ 10 ∷ 11 ∷ 12 ∷ 13 ∷ 14 ∷ []
 
 module _ (p : Process) where
-  pub zero-passes : (n : ℕ) (w : Wait) → n ≡ 0 → passes p ≡ restsUnless p n w
+  pub zero-passes : (n : ℕ) (w : Wait) → n ≡ 0 → goesOn p ≡ restsUnless p n w
   unfolding restsUnless
   zero-passes n w h = rw (eq-eqb n 0 h)
 
@@ -33,7 +33,7 @@ module _ (p : Process) where
   unfolding restsUnless
   other-rests n w h = rw (ne-eqb n 0 h)
 
-  pub level-holds : (levels : List Bool) (l : Level) → sameLevel (l .on) (getD levels (l .signal) false) ≡ true → passes p ≡ signalled p levels l
+  pub level-holds : (levels : List Bool) (l : Level) → sameLevel (l .on) (getD levels (l .signal) false) ≡ true → goesOn p ≡ signalled p levels l
   unfolding signalled
   level-holds levels l h = rw h
 
@@ -65,7 +65,7 @@ module _ (p : Process) where
     step-out h = rw (le-ltb (p .place) linesLimit h)
 
     -- the statements that do no more than pass, by their tags
-    pub other-passes : (c : Cell) → OneOf passing (tagOf the-type c) → passes p ≡ movedBy cells levels p c
+    pub other-passes : (c : Cell) → OneOf passing (tagOf the-type c) → goesOn p ≡ movedBy cells levels p c
     unfolding movedBy
     other-passes Nothing h = absurd (miss passing 0 tt h)
     other-passes (Send s) h = refl

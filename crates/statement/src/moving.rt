@@ -3,36 +3,40 @@ ghost use mathlib.Core.Path.{_≡_};
 ghost use mathlib.Core.Bool.{false};
 ghost use Prim.Native.Nat.{_+_, _<_, _≤_};
 ghost use lib.ListN.{getD};
-ghost use Rattle.joining.specs.Joining.{joinedOf};
-ghost use Rattle.statement.specs.Moving.{passes, restsAt, awaits, restsUnless, signalled, behind, movedBy, moved};
-use coder::cell_at;
-use joining::Joined;
-use joining::join;
+ghost use Rattle.statement.specs.inside.Joined.{joinedOf};
+ghost use Rattle.statement.specs.Moving.{goesOn, restsAt, awaits, restsUnless, signalled, afterPlace, movedBy, moved};
+ghost use Rattle.language.specs.Limits.{cellPlaces};
+use crate::joining::Joined;
+use crate::joining::join;
+use crate::loops::Moved;
+use crate::loops::closes;
+use crate::loops::goes_to;
+use crate::loops::moves;
+use crate::loops::opens;
+use crate::loops::strays;
+use cells::decoder::cell_at;
+use language::CELL_PLACES;
 use language::Cell;
 use language::Cells;
 use language::Level;
+use language::POOL_PLACES;
+use language::SIGNALS;
 use language::Span;
-use loops::Moved;
-use loops::closes;
-use loops::goes_to;
-use loops::moves;
-use loops::opens;
-use loops::strays;
 use process::Process;
 use process::Progress;
 use process::Wait;
 use process::waits::same_level;
+use reader::widths::wide;
 
-fn wide(x: u16) -> usize
-    ensures { λ r. ⌜ r ≡ x ⌝ }
-{
-    x as usize
-}
+// The lengths of the table's arrays, as wide as what is held against them.
+const POOL: u32 = POOL_PLACES as u32;
+
+const CELLS: u16 = CELL_PLACES as u16;
 
 // On to the next statement.
 fn passes_on(p: Process) -> Moved
-    requires { ⌜ p .place < 512 ⌝ }
-    ensures { λ r. ⌜ r ≡ passes p ⌝ }
+    requires { ⌜ p .place < cellPlaces ⌝ }
+    ensures { λ r. ⌜ r ≡ goesOn p ⌝ }
 {
     let left = p.left;
     let back = p.back;
@@ -50,7 +54,7 @@ fn rests_at(p: Process, place: u16, wait: Wait) -> Moved
 
 // "Zero waits pass."
 fn rests_unless(p: Process, n: u32, wait: Wait) -> Moved
-    requires { ⌜ p .place < 512 ⌝ }
+    requires { ⌜ p .place < cellPlaces ⌝ }
     ensures { λ r. ⌜ r ≡ restsUnless p n wait ⌝ }
 {
     if n == 0 {
@@ -61,15 +65,15 @@ fn rests_unless(p: Process, n: u32, wait: Wait) -> Moved
 
 // WAIT DATA begins, with the lines that follow it.
 fn awaits_data(p: Process, s: Span, j: Joined) -> Moved
-    requires { ⌜ (p .place < 512) × (p .place + 1 + j .cells ≤ 65535) ⌝ }
+    requires { ⌜ (p .place < cellPlaces) × (p .place + 1 + j .cells ≤ 65535) ⌝ }
     ensures { λ r. ⌜ r ≡ awaits p s (j .cells) (j .bytes) ⌝ }
 {
-    if 1024 < j.bytes {
+    if POOL < j.bytes {
         return strays(p);
     }
     let from = s.from as u32;
     let count = s.count as u32 + j.bytes;
-    if from + count <= 1024 {
+    if from + count <= POOL {
         let progress = Progress {
             from: s.from,
             count: count as u16,
@@ -80,17 +84,17 @@ fn awaits_data(p: Process, s: Span, j: Joined) -> Moved
     strays(p)
 }
 
-// The WAIT DATA lines behind the place of a process.
+// The WAIT DATA lines after the place of a process.
 fn neighbours_in(p: Process, cells: &Cells) -> Joined
-    requires { ⌜ p .place < 512 ⌝ }
-    ensures { λ r. ⌜ (r ≡ joinedOf (behind (now (cells .entry)) p)) × (p .place + 1 + r .cells ≤ 65535) ⌝ }
+    requires { ⌜ p .place < cellPlaces ⌝ }
+    ensures { λ r. ⌜ (r ≡ joinedOf (afterPlace (now (cells .entry)) p)) × (p .place + 1 + r .cells ≤ 65535) ⌝ }
 {
     join(cells, wide(p.place) + 1, wide(p.end))
 }
 
 // The statement that a cell says.
-fn moves_by(p: Process, cells: &Cells, levels: [bool; 5], cell: Cell) -> Moved
-    requires { ⌜ p .place < 512 ⌝ }
+fn moves_by(p: Process, cells: &Cells, levels: [bool; SIGNALS], cell: Cell) -> Moved
+    requires { ⌜ p .place < cellPlaces ⌝ }
     ensures { λ r. ⌜ r ≡ movedBy (now (cells .entry)) levels p cell ⌝ }
 {
     match cell {
@@ -108,11 +112,11 @@ fn moves_by(p: Process, cells: &Cells, levels: [bool; 5], cell: Cell) -> Moved
 }
 
 // One statement of a process that is ready.
-pub fn step(p: Process, cells: &Cells, levels: [bool; 5]) -> Moved
+pub fn step(p: Process, cells: &Cells, levels: [bool; SIGNALS]) -> Moved
     ensures { λ r. ⌜ r ≡ moved (now (cells .entry)) levels p ⌝ }
 {
     let place = p.place;
-    if place < 512 {
+    if place < CELLS {
         if place < p.end {
             let cell = cell_at(cells, wide(place));
             return moves_by(p, cells, levels, cell);
@@ -123,8 +127,8 @@ pub fn step(p: Process, cells: &Cells, levels: [bool; 5]) -> Moved
 }
 
 // A wait for a level.
-fn awaits_level(p: Process, levels: [bool; 5], l: Level) -> Moved
-    requires { ⌜ p .place < 512 ⌝ }
+fn awaits_level(p: Process, levels: [bool; SIGNALS], l: Level) -> Moved
+    requires { ⌜ p .place < cellPlaces ⌝ }
     ensures { λ r. ⌜ r ≡ signalled p levels l ⌝ }
 {
     if same_level(l.on, level_of(levels, l.signal)) {
@@ -134,9 +138,9 @@ fn awaits_level(p: Process, levels: [bool; 5], l: Level) -> Moved
 }
 
 // The level of a signal; off where there is none.
-fn level_of(levels: [bool; 5], signal: u8) -> bool
+fn level_of(levels: [bool; SIGNALS], signal: u8) -> bool
     ensures { λ r. ⌜ r ≡ getD levels signal false ⌝ }
 {
     let at = signal as usize;
-    if at < 5 { levels[at] } else { false }
+    if at < SIGNALS { levels[at] } else { false }
 }

@@ -8,7 +8,7 @@ use lib.Dec.{ltb}
 use lib.ListN.{length, getD, take, drop, length-map, length-take}
 use lib.Seq.{getD-take}
 use Rattle.figures.specs.Flat.{plain, sureRest, opens}
-use Rattle.figures.specs.Scan.{Stands}
+use Rattle.figures.specs.inside.Scan.{MarkAt}
 use Rattle.figures.proofs.Scanning.{stands-map}
 use Rattle.language.specs.declared.Cell.{Cell}
 use Rattle.language.specs.declared.Cell.the-variants.{Loop, WaitTime, WaitByte}
@@ -16,8 +16,8 @@ use Rattle.language.specs.Cell.{decoded}
 use Rattle.language.specs.Stretch.{markOf}
 use Rattle.language.specs.Table.{statementOf}
 use Rattle.stretch.specs.declared.Role.{Role}
-use Rattle.stretch.specs.Marks.{cellMark, wordMark, marksBetween, marked}
-use Rattle.stretch.specs.Scan.{marksTo}
+use Rattle.stretch.specs.Marks.{cellMark, wordMark, marksBetween, marksTo}
+use Rattle.stretch.specs.inside.Roles.{marked}
 
 map-drop : {A B : Type 0} (f : A → B) (i : ℕ) (xs : List A) → drop i (map f xs) ≡ map f (drop i xs)
 map-drop f zero xs = refl
@@ -49,7 +49,7 @@ module _ (cells : List ℕ) (end : ℕ) where
 
     -- where the code has read a cell and found its role, the mark of that role stands
     pub stands-role : (i : ℕ) → i < end → (cell : Cell) (found role : Role) → cell ≡ decoded (getD cells i 0) → marked found ≡ cellMark cell → found ≡ role
-        → Stands (marksTo cells end) i (marked role)
+        → MarkAt (marksTo cells end) i (marked role)
     stands-role i h cell found role e m r =
         let w : wordMark (getD (take end cells) i 0) ≡ marked role =
         ap wordMark (getD-take end cells i 0 h) ∙ ap cellMark (sym e) ∙ sym m ∙ ap marked r

@@ -10,23 +10,23 @@ use lib.ListN.{length, getD, take, drop, length-take, drop-of-length-le}
 use lib.Seq.{drop-cons, getD-take, take-all}
 use borrow.Author.Tests.{le-leb, lt-leb}
 use Rattle.figures.specs.declared.Figures.{Figures}
-use Rattle.figures.specs.Flat.{Mark, deepest, nests}
-use Rattle.runs.specs.Cap.{limit}
+use Rattle.figures.specs.Flat.{Mark, deepest, marksNest}
+use Rattle.figures.specs.Cap.{limit}
 use Rattle.figures.specs.Figures.{figures}
-use Rattle.figures.specs.Scan.{fragmentAt, Scanned}
+use Rattle.figures.specs.inside.Scan.{fragmentAt, Scanned}
 use Rattle.figures.proofs.Scanning.{nests-scannable}
 use Rattle.stretch.specs.declared.Alone.{Alone}
 use Rattle.stretch.specs.declared.Alone.the-variants.{Nests, Strays}
 use Rattle.stretch.specs.declared.Measured.{Measured}
 use Rattle.stretch.specs.declared.Measured.the-variants.{Largest, Over, Broken}
-use Rattle.stretch.specs.Marks.{wordMark, marksBetween, processesFrom}
-use Rattle.stretch.specs.Measured.{stretchIn, alone, measuredFrom}
-use Rattle.stretch.specs.Scan.{marksTo, Run}
+use Rattle.stretch.specs.Marks.{wordMark, marksBetween, processesFrom, marksTo}
+use Rattle.stretch.specs.inside.Measured.{stretchIn, alone, measuredFrom}
+use Rattle.stretch.specs.inside.Scan.{ScannableRun}
 use Rattle.stretch.proofs.Marking.{marks-between, marks-length}
 
 -- ---- a process by its places
 
--- places behind the last cell add nothing
+-- places after the last cell add nothing
 take-clip : (n k : ℕ) (l : List ℕ) → k ≡ min n (length l) → take k l ≡ take n l
 take-clip n k l e = elim (decLe n (length l)) [
   | yes h ↦ (let m : k ≡ n = omega arith in rw m)
@@ -46,13 +46,13 @@ module _ (cells : List ℕ) (from end first behind : ℕ) (b : behind ≡ min en
       ap (map wordMark)
       (drop-clip from first (take behind cells) (omega (arith, length-take behind cells)) ∙ ap (drop from) (take-clip end behind cells b))
 
-  module _ (h : nests 0 (marksBetween cells first behind) ≡ true) where
+  module _ (h : marksNest 0 (marksBetween cells first behind) ≡ true) where
     -- a process whose loops nest may be scanned
-    pub run-starts : Run cells first behind deepest
+    pub run-starts : ScannableRun cells first behind deepest
     run-starts =
         record {
           inside = omega arith;
-          scannable = nests-scannable (marksTo cells behind) first (omega (arith, marks-length cells behind (omega arith))) (ap (nests 0) (marks-between cells behind first) ∙ h);
+          scannable = nests-scannable (marksTo cells behind) first (omega (arith, marks-length cells behind (omega arith))) (ap (marksNest 0) (marks-between cells behind first) ∙ h);
         }
 
     pub alone-nests : (found : Figures) (next : ℕ) → Scanned (marksTo cells behind) first (figures (fragmentAt (marksTo cells behind) first)) found next
@@ -61,7 +61,7 @@ module _ (cells : List ℕ) (from end first behind : ℕ) (b : behind ≡ min en
         let e : stretchIn (marksBetween cells first behind) ≡ found .longest = ap stretchIn (sym (marks-between cells behind first)) ∙ sym (ap (λ (a : Figures). a .longest) (s .exact)) in
         rw (← clipped, h, e)
 
-  pub alone-strays : nests 0 (marksBetween cells first behind) ≡ false → Strays ≡ alone (marksBetween cells from end)
+  pub alone-strays : marksNest 0 (marksBetween cells first behind) ≡ false → Strays ≡ alone (marksBetween cells from end)
   alone-strays h = rw (← clipped, h)
 
 -- ---- one after the other
@@ -108,8 +108,8 @@ module _ (cells ends : List ℕ) (count : ℕ) where
 
       module _ (found : Alone) (a : found ≡ alone one) where
         module _ (k : ℕ) (n : found ≡ Nests k) where
-          told : (nests 0 one ≡ true) × (stretchIn one ≡ k)
-          told = nests-told (nests 0 one) (stretchIn one) k (sym a ∙ n)
+          told : (marksNest 0 one ≡ true) × (stretchIn one ≡ k)
+          told = nests-told (marksNest 0 one) (stretchIn one) k (sym a ∙ n)
 
           pub measuring-on : k ≤ limit → Measuring cells ends count (max best k) end (number + 1) (i + 1)
           unfolding measuredFrom processesFrom
@@ -121,4 +121,4 @@ module _ (cells ends : List ℕ) (count : ℕ) where
 
         pub measuring-strays : found ≡ Strays → Broken ≡ answered cells ends count
         unfolding measuredFrom processesFrom
-        measuring-strays n = sym (rw (strays-told (nests 0 one) (stretchIn one) (sym a ∙ n))) ∙ same-here
+        measuring-strays n = sym (rw (strays-told (marksNest 0 one) (stretchIn one) (sym a ∙ n))) ∙ same-here

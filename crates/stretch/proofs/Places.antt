@@ -7,9 +7,9 @@ use lib.ListN.{length, getD, take, length-take}
 use lib.Seq.{getD-take}
 use Rattle.language.specs.declared.Heads.{Heads}
 use Rattle.stretch.specs.declared.Measured.the-variants.{Largest}
-use Rattle.stretch.specs.Marks.{marksBetween, processesFrom, processesOf, begins, stops}
-use Rattle.stretch.specs.Measured.{measured}
-use Rattle.stretch.specs.Reported.{process, Within, Says}
+use Rattle.stretch.specs.Marks.{marksBetween, processesFrom, processesOf, beginsAt, endsAt}
+use Rattle.stretch.specs.inside.Measured.{measured}
+use Rattle.stretch.specs.Reported.{processAt, AtMost, AnswerSays}
 use Rattle.stretch.proofs.Reports.{measured-reported}
 
 length-processes : (cells : List ℕ) (from : ℕ) (es : List ℕ) → length (processesFrom cells from es) ≡ length es
@@ -18,7 +18,7 @@ length-processes cells from [] = refl
 length-processes cells from (e ∷ es) = ap suc (length-processes cells e es)
 
 process-from : (cells : List ℕ) (from : ℕ) (es : List ℕ) (i : ℕ) → i < length es
-    → process (processesFrom cells from es) i ≡ marksBetween cells (getD (from ∷ es) i 0) (getD es i 0)
+    → processAt (processesFrom cells from es) i ≡ marksBetween cells (getD (from ∷ es) i 0) (getD es i 0)
 unfolding processesFrom
 process-from cells from [] i h = absurd (omega arith)
 process-from cells from (e ∷ es) zero h = refl
@@ -33,13 +33,13 @@ module _ (cells : List ℕ) (heads : Heads) (i : ℕ) (h : i < heads .processes)
   unfolding processesOf
   inside = omega (arith, length-processes cells 0 (take (heads .processes) (heads .ends)), length-take (heads .processes) (heads .ends))
 
-  pub process-between : process (processesOf cells heads) i ≡ marksBetween cells (begins heads i) (stops heads i)
+  pub process-between : processAt (processesOf cells heads) i ≡ marksBetween cells (beginsAt heads i) (endsAt heads i)
   unfolding processesOf
   process-between =
       process-from cells 0 (take (heads .processes) (heads .ends)) i (omega (arith, length-take (heads .processes) (heads .ends)))
       ∙ ap₂ (marksBetween cells) (getD-begin (heads .processes) (heads .ends) i h) (getD-take (heads .processes) (heads .ends) i 0 h)
 
   -- its loops nest, and its stretch is at most k
-  pub measured-each : {k : ℕ} → measured cells heads ≡ Largest k → Within (marksBetween cells (begins heads i) (stops heads i)) k
-  unfolding Says
-  measured-each e = rw process-between at (subst (Says (processesOf cells heads)) e (measured-reported cells heads) .each i inside)
+  pub measured-each : {k : ℕ} → measured cells heads ≡ Largest k → AtMost (marksBetween cells (beginsAt heads i) (endsAt heads i)) k
+  unfolding AnswerSays
+  measured-each e = rw process-between at (subst (AnswerSays (processesOf cells heads)) e (measured-reported cells heads) .each i inside)

@@ -87,35 +87,35 @@ table-marks t h = go (take (t .heads .processes) (t .heads .ends)) h
 
 -- whether the loops of each process nest, with `opened` loops open at the start of the first
 unfoldable pub allNest : ℕ → List (List Mark) → Bool
-allNest opened [] = flat.nests opened []
-allNest opened (p ∷ ps) = flat.nests opened p && allNest 0 ps
+allNest opened [] = flat.marksNest opened []
+allNest opened (p ∷ ps) = flat.marksNest opened p && allNest 0 ps
 
-nests-end : (o : ℕ) → flat.nests o [] ≡ eqb o 0
-unfolding flat.nests
+nests-end : (o : ℕ) → flat.marksNest o [] ≡ eqb o 0
+unfolding flat.marksNest
 nests-end zero = refl
 nests-end (suc o) = sym (ne-eqb (suc o) 0 (omega arith))
 
 module _ (d : ℕ) (ms : List Mark) where
-  stays-on : (t : Bool) → flat.nests d (cond t sureRest plain ∷ ms) ≡ flat.nests d ms
-  unfolding flat.nests
+  stays-on : (t : Bool) → flat.marksNest d (cond t sureRest plain ∷ ms) ≡ flat.marksNest d ms
+  unfolding flat.marksNest
   stays-on true = refl
   stays-on false = refl
 
-closes-on : (d : ℕ) (ms : List Mark) → flat.nests d (flat.closes ∷ ms) ≡ (ltb 0 d && flat.nests (d - 1) ms)
-unfolding flat.nests
+closes-on : (d : ℕ) (ms : List Mark) → flat.marksNest d (flat.closes ∷ ms) ≡ (ltb 0 d && flat.marksNest (d - 1) ms)
+unfolding flat.marksNest
 closes-on zero ms = refl
 closes-on (suc d) ms = rw (lt-ltb 0 (suc d) (omega arith), sub-one (suc d))
 
-opens-on : (n d : ℕ) (ms : List Mark) → flat.nests d (flat.opens n ∷ ms) ≡ (ltb d 8 && flat.nests (d + 1) ms)
-unfolding flat.nests
+opens-on : (n d : ℕ) (ms : List Mark) → flat.marksNest d (flat.opens n ∷ ms) ≡ (ltb d 8 && flat.marksNest (d + 1) ms)
+unfolding flat.marksNest
 opens-on n d ms = rw (add-one d) (go (ltb d 8))
   where
-    go : (t : Bool) → cond t (flat.nests (suc d) ms) false ≡ (t && flat.nests (suc d) ms)
+    go : (t : Bool) → cond t (flat.marksNest (suc d) ms) false ≡ (t && flat.marksNest (suc d) ms)
     go true = refl
     go false = refl
 
 -- a statement first
-nests-statement : (s : Statement) (d : ℕ) (ms : List Mark) → flat.nests d (markOf s ∷ ms) ≡ (mayNest (shape s) d && flat.nests (depthAfter (shape s) d) ms)
+nests-statement : (s : Statement) (d : ℕ) (ms : List Mark) → flat.marksNest d (markOf s ∷ ms) ≡ (mayNest (shape s) d && flat.marksNest (depthAfter (shape s) d) ms)
 unfolding markOf mayNest depthAfter shape
 nests-statement (send bs) d ms = stays-on d ms false
 nests-statement (loop n) d ms = opens-on n d ms
@@ -136,20 +136,20 @@ and-assoc : (a b c : Bool) → ((a && b) && c) ≡ (a && (b && c))
 and-assoc true b c = refl
 and-assoc false b c = refl
 
-and-end : (a : Bool) → (a && flat.nests 0 []) ≡ a
-unfolding flat.nests
+and-end : (a : Bool) → (a && flat.marksNest 0 []) ≡ a
+unfolding flat.marksNest
 and-end true = refl
 and-end false = refl
 
 nests-first : (s : Statement) (d : ℕ) (ps : List (List Statement))
     → allNest d (marksOf (inFirst s ps)) ≡ (mayNest (shape s) d && allNest (depthAfter (shape s) d) (marksOf ps))
 unfolding allNest inFirst
-nests-first s d [] = and-end (flat.nests d (markOf s ∷ [])) ∙ nests-statement s d []
+nests-first s d [] = and-end (flat.marksNest d (markOf s ∷ [])) ∙ nests-statement s d []
 nests-first s d (p ∷ ps) = ap (λ (t : Bool). t && allNest 0 (marksOf ps)) (nests-statement s d (map markOf p)) ∙ and-assoc (mayNest (shape s) d) _ _
 
 -- a script's loops nest just when those of each of its processes do
 pub nests-processes : (is : List Item) (d : ℕ) → nests is d ≡ allNest d (marksOf (processes is))
 unfolding nests processes allNest
-nests-processes [] d = sym (nests-end d) ∙ sym (and-end (flat.nests d []))
+nests-processes [] d = sym (nests-end d) ∙ sym (and-end (flat.marksNest d []))
 nests-processes (does s ∷ is) d = ap (λ (t : Bool). mayNest (shape s) d && t) (nests-processes is (depthAfter (shape s) d)) ∙ sym (nests-first s d (processes is))
 nests-processes (next ∷ is) d = ap₂ _&&_ (sym (nests-end d)) (nests-processes is 0)

@@ -9,8 +9,8 @@ use lib.ListN.{length, take, replicate}
 use lib.Seq.{take-at}
 use Rattle.reader.proofs.Tests.{both-left, both-right, by-cases}
 use Rattle.figures.specs.Flat as flat
-use Rattle.runs.specs.Cap.{limit}
-use Rattle.language.specs.declared.Fault.the-variants.{StretchTooLong}
+use Rattle.figures.specs.Cap.{limit}
+use Rattle.language.specs.declared.TextFault.the-variants.{StretchTooLong}
 use Rattle.language.specs.declared.Table.{Table}
 use Rattle.language.specs.Limits.{dataLimit, processLimit}
 use Rattle.language.specs.Script.{Statement, Item, does, next, Script, processes, default}
@@ -23,7 +23,7 @@ use Rattle.language.proofs.Tables.{script-back}
 use Rattle.stretch.specs.declared.Measured.{Measured}
 use Rattle.stretch.specs.declared.Measured.the-variants.{Largest, Over, Broken}
 use Rattle.stretch.specs.Marks.{processesOf}
-use Rattle.stretch.specs.Measured.{measuredFrom, measured, isLargest}
+use Rattle.stretch.specs.inside.Measured.{measuredFrom, measured, isLargest}
 use Rattle.stretch.proofs.Scripts.{marksOf, table-marks, allNest, nests-processes}
 
 -- what an answer says of processes that are told by their statements, `best` being the largest stretch and `number` - 1 the number of those before
@@ -44,11 +44,11 @@ verdict : (s : Script) (ps : List (List Statement)) (number best : ℕ) → allN
 unfolding measuredFrom allNest stretched largestOf stretchOf
 verdict s [] number best h = (refl, omega arith)
 verdict s (p ∷ ps) number best h =
-    rw (both-left (flat.nests 0 (map markOf p)) _ h)
+    rw (both-left (flat.marksNest 0 (map markOf p)) _ h)
     (by-cases (Verdict s (p ∷ ps) number best) (leb (stretchOf p) limit) _ _
     (λ l.
     let best′ : ℕ = max best (stretchOf p) in
-    verdict-more s p ps number best (measuredFrom (number + 1) best′ (marksOf ps)) l (verdict s ps (number + 1) best′ (both-right (flat.nests 0 (map markOf p)) _ h)))
+    verdict-more s p ps number best (measuredFrom (number + 1) best′ (marksOf ps)) l (verdict s ps (number + 1) best′ (both-right (flat.marksNest 0 (map markOf p)) _ h)))
     (λ l. rw l))
 
 -- ---- the table of a right script
@@ -118,10 +118,10 @@ right-more false l number r a b h = refl
 
 right-from : (ps : List (List Statement)) (number best : ℕ)
     → isLargest (measuredFrom number best (marksOf ps)) ≡ (allNest 0 (marksOf ps) && allBelow stretchOf ps)
-unfolding measuredFrom allNest allBelow flat.nests stretchOf
+unfolding measuredFrom allNest allBelow flat.marksNest stretchOf
 right-from [] number best = refl
 right-from (p ∷ ps) number best =
-    right-more (flat.nests 0 (map markOf p)) (leb (stretchOf p) limit) number _ _ _ (right-from ps (number + 1) (max best (stretchOf p)))
+    right-more (flat.marksNest 0 (map markOf p)) (leb (stretchOf p) limit) number _ _ _ (right-from ps (number + 1) (max best (stretchOf p)))
 
 module _ (t : Table) (some : 0 < length (take (t .heads .processes) (t .heads .ends))) where
   -- its script's loops nest and no stretch is too long just when there is a largest

@@ -7,14 +7,14 @@ use lib.ListN.{length}
 use Rattle.language.specs.declared.Cell.{Cell}
 use Rattle.language.specs.declared.Cell.the-variants.{Send, Loop, End, WaitTime, WaitData, WaitByte, WaitClock, WaitSignal, Log, Nop}
 use Rattle.language.specs.declared.Heads.{Heads}
-use Rattle.language.specs.Limits.{linesLimit, processLimit}
+use Rattle.language.specs.Limits.{cellPlaces, processPlaces}
 use Rattle.language.specs.Cell.{span, level, clock, coded}
 use Rattle.language.specs.Table.{padded}
 use Rattle.stretch.specs.declared.Measured.{Measured}
 use Rattle.stretch.specs.declared.Measured.the-variants.{Largest, Over, Broken}
-use Rattle.stretch.specs.Measured.{measured}
+use Rattle.stretch.specs.inside.Measured.{measured}
 
--- the cells of a table, the place behind the last cell of each process, and what is answered
+-- the cells of a table, the place after the last cell of each process, and what is answered
 pub record Case : Type 0 where
   pub cells : List Cell
   pub ends : List ℕ
@@ -25,7 +25,7 @@ abbrev pub headsWith : List ℕ → Heads
 headsWith ends =
     record {
       processes = length ends;
-      ends = padded processLimit ends;
+      ends = padded processPlaces ends;
       used = 0;
       encodes = false;
       encode = 0;
@@ -37,7 +37,7 @@ headsWith ends =
 
 -- what `largest` answers is what the case says
 abbrev pub Holds : Case → Type 0
-Holds c = measured (padded linesLimit (map coded (c .cells))) (headsWith (c .ends)) ≡ c .answer
+Holds c = measured (padded cellPlaces (map coded (c .cells))) (headsWith (c .ends)) ≡ c .answer
 
 -- every case of a table of cases holds
 abbrev pub AllHold : List Case → Type 0
@@ -88,7 +88,7 @@ cases =
       ends = 18 ∷ [];
       answer = Broken;
     }
-    -- ends out of order, and one behind the table, whose unused cells are read as other statements
+    -- ends out of order, and one after the table, whose unused cells are read as other statements
     ∷ record { cells = Nop ∷ Nop ∷ Nop ∷ []; ends = 3 ∷ 1 ∷ 2 ∷ []; answer = Largest 3 }
     ∷ record { cells = Nop ∷ []; ends = 65535 ∷ []; answer = Largest 512 }
     -- no process at all

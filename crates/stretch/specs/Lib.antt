@@ -1,5 +1,6 @@
+-- The stretch of the processes of a table.
 pub mod Marks
-pub mod Measured
 pub mod Reported
-pub mod Scan
 pub mod Cases
+-- as the code goes through it: nothing in there has to be believed
+pub mod inside

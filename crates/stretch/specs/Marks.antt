@@ -3,14 +3,12 @@ use mathlib.Core.List.{List, [], _∷_, map}
 use Prim.Native.Nat.{ℕ}
 use lib.ListN.{getD, take}
 use lib.Seq.{slice}
-use Rattle.figures.specs.Flat.{Mark, plain, sureRest, opens, closes}
+use Rattle.figures.specs.Flat.{Mark}
 use Rattle.language.specs.declared.Cell.{Cell}
 use Rattle.language.specs.declared.Heads.{Heads}
 use Rattle.language.specs.Cell.{decoded}
 use Rattle.language.specs.Stretch.{markOf}
 use Rattle.language.specs.Table.{statementOf}
-use Rattle.stretch.specs.declared.Role.{Role}
-use Rattle.stretch.specs.declared.Role.the-variants.{Other, SureRest, Loop, End}
 
 -- "Sure rests are .." is said of statements, so a cell is read as its statement; the data do not matter for it
 unfoldable pub cellMark : Cell → Mark
@@ -33,17 +31,14 @@ processesFrom cells from (end ∷ ends) = marksBetween cells from end ∷ proces
 unfoldable pub processesOf : List ℕ → Heads → List (List Mark)
 processesOf cells heads = processesFrom cells 0 (take (heads .processes) (heads .ends))
 
--- the place where the process behind i others begins, and the one where it stops
-abbrev pub begins : Heads → ℕ → ℕ
-begins heads i = getD (0 ∷ heads .ends) i 0
+-- the place where the process after i others begins, and the one where it stops
+abbrev pub beginsAt : Heads → ℕ → ℕ
+beginsAt heads i = getD (0 ∷ heads .ends) i 0
 
--- the place behind its last cell
-abbrev pub stops : Heads → ℕ → ℕ
-stops heads i = getD (heads .ends) i 0
+-- the place after its last cell
+abbrev pub endsAt : Heads → ℕ → ℕ
+endsAt heads i = getD (heads .ends) i 0
 
--- the mark that the code's `Role` stands for
-abbrev pub marked : Role → Mark
-marked Other = plain
-marked SureRest = sureRest
-marked (Loop n) = opens n
-marked End = closes
+-- the marks of the cells before a place
+abbrev pub marksTo : List ℕ → ℕ → List Mark
+marksTo cells end = map wordMark (take end cells)

@@ -1,24 +1,25 @@
 // The stretch of each process, read off a table's cells.
-use coder::cell_at;
+use cells::decoder::cell_at;
 use figures::Figures;
+use figures::runs::LIMIT;
 use language::Cell;
 use language::Cells;
 use language::Heads;
 use language::LOOPS;
-use runs::LIMIT;
 ghost use mathlib.Core.Path.{_≡_};
 ghost use mathlib.Core.Bool.{cond};
 ghost use Prim.Native.Nat.{_≤_, max, min};
 ghost use lib.Dec.{ltb};
 ghost use lib.ListN.{length, take};
-ghost use Rattle.figures.specs.Flat.{sureRest, plain, nests};
+ghost use Rattle.figures.specs.Flat.{sureRest, plain, marksNest};
 ghost use Rattle.figures.specs.Figures.{looped, figures};
-ghost use Rattle.figures.specs.Scan.{fragmentAt, Scanned};
+ghost use Rattle.figures.specs.inside.Scan.{fragmentAt, Scanned};
 ghost use Rattle.language.specs.Limits.{processLimit};
-ghost use Rattle.stretch.specs.Marks.{cellMark, marked, marksBetween, processesFrom};
-ghost use Rattle.stretch.specs.Measured.{alone, measuredFrom, measured};
+ghost use Rattle.stretch.specs.Marks.{cellMark, marksBetween, processesFrom, marksTo};
+ghost use Rattle.stretch.specs.inside.Roles.{marked};
+ghost use Rattle.stretch.specs.inside.Measured.{alone, measuredFrom, measured};
 ghost use Rattle.stretch.specs.Reported.{Reported};
-ghost use Rattle.stretch.specs.Scan.{marksTo, Run, Body};
+ghost use Rattle.stretch.specs.inside.Scan.{ScannableRun, ScannableBody};
 
 /// What is answered of a table.
 pub enum Measured {
@@ -44,7 +45,7 @@ enum Alone {
     Strays,
 }
 
-// What a scan finds: figures, and the place behind what was scanned.
+// What a scan finds: figures, and the place after what was scanned.
 struct Ran {
     pub figures: Figures,
     pub at: usize,
@@ -73,11 +74,12 @@ fn role_of(c: Cell) -> Role
     }
 }
 
-// The figures of the statements from `at` on, up to the END of their loop or the place `end`, and the place behind that END.
+// The figures of the statements from `at` on, up to the END of their loop or the place `end`, and the place after that END.
 // Loops nest at most `left` deep.
 fn run_figures(cells: &Cells, at: usize, end: usize, left: usize) -> Ran
-    requires { ⌜ Run (now cells) at end left ⌝ }
-    ensures { λ r. ⌜ Scanned (marksTo (now (cells .entry)) end) at (figures (fragmentAt (marksTo (now (cells .entry)) end) at)) (r .figures) (r .at) ⌝ }
+    requires { ⌜ ScannableRun (now cells) at end left ⌝ }
+    ensures { λ r. ⌜ Scanned (marksTo (now (cells .entry)) end) at
+        (figures (fragmentAt (marksTo (now (cells .entry)) end) at)) (r .figures) (r .at) ⌝ }
 {
     let mut sum = Figures::nothing();
     let mut i = at;
@@ -113,10 +115,11 @@ fn run_figures(cells: &Cells, at: usize, end: usize, left: usize) -> Ran
     }
 }
 
-// The figures of all passes of LOOP n, whose body starts at `at`, and the place behind its END.
+// The figures of all passes of LOOP n, whose body starts at `at`, and the place after its END.
 fn body_figures(cells: &Cells, at: usize, end: usize, left: usize, n: u32) -> Ran
-    requires { ⌜ Body (now cells) at end left ⌝ }
-    ensures { λ r. ⌜ Scanned (marksTo (now (cells .entry)) end) at (looped n (figures (fragmentAt (marksTo (now (cells .entry)) end) at))) (r .figures) (r .at) ⌝ }
+    requires { ⌜ ScannableBody (now cells) at end left ⌝ }
+    ensures { λ r. ⌜ Scanned (marksTo (now (cells .entry)) end) at
+        (looped n (figures (fragmentAt (marksTo (now (cells .entry)) end) at))) (r .figures) (r .at) ⌝ }
 {
     let body = run_figures(cells, at, end, left - 1);
     let once = body.figures;
@@ -129,7 +132,7 @@ fn body_figures(cells: &Cells, at: usize, end: usize, left: usize, n: u32) -> Ra
 // Whether every loop from `at` up to the place `end` is closed there, no END stands alone, and at most eight are open at once.
 fn nested(cells: &Cells, at: usize, end: usize) -> bool
     requires { ⌜ (at ≤ end) × (end ≤ length (now cells)) ⌝ }
-    ensures { λ r. ⌜ r ≡ nests 0 (marksBetween (now (cells .entry)) at end) ⌝ }
+    ensures { λ r. ⌜ r ≡ marksNest 0 (marksBetween (now (cells .entry)) at end) ⌝ }
 {
     let mut opened: usize = 0;
     let mut i = at;
@@ -175,7 +178,7 @@ fn larger(x: u32, y: u32) -> u32
     if x < y { y } else { x }
 }
 
-// One process, by the places of its first cell and behind its last; places behind the table have no cells.
+// One process, by the places of its first cell and after its last; places after the table have no cells.
 fn measure(cells: &Cells, from: usize, end: usize) -> Alone
     ensures { λ r. ⌜ r ≡ alone (marksBetween (now (cells .entry)) from end) ⌝ }
 {
@@ -198,7 +201,7 @@ fn place(end: u16) -> usize
     end as usize
 }
 
-// The first `count` processes, by the places behind their last cells.
+// The first `count` processes, by the places after their last cells.
 fn measure_all<'a>(cells: &'a Cells, ends: &'a [u16], count: usize) -> Measured
     requires { ⌜ length (now ends) ≤ processLimit ⌝ }
     ensures { λ r. ⌜ r ≡ measuredFrom 1 0 (processesFrom (now (cells .entry)) 0 (take count (now (ends .entry)))) ⌝ }

@@ -30,7 +30,7 @@ unfoldable pub afterWord : List ℕ → List ℕ
 afterWord [] = []
 afterWord (b ∷ l) = cond (isBlank b) (b ∷ l) (afterWord l)
 
--- a byte in front of what is left of the bytes behind it, once the spaces and tabs at their end are gone
+-- a byte in front of what is left of the bytes after it, once the spaces and tabs at their end are gone
 unfoldable pub beforeEnd : ℕ → List ℕ → List ℕ
 beforeEnd b [] = cond (isBlank b) [] (b ∷ [])
 beforeEnd b (c ∷ l) = b ∷ c ∷ l

@@ -6,7 +6,7 @@ use native.Mathlib.Nat.{pow-suc, mod-lt, mul-comm, mul-assoc, add-mul, div-add-m
 use native.Mathlib.Omega.{arith}
 use borrow.Author.Tests.{lt-ltb, le-ltb, le-leb}
 use Rattle.reader.specs.Bytes.{digitOf}
-use Rattle.numbers.specs.Number.{ended, numberGo, secondOf, pairOf}
+use Rattle.numbers.specs.Number.{digitsEnded, numberGo, secondOf, pairOf}
 use Rattle.writer.specs.Put.{fixed, widthOf, decimal, twoDigits}
 use Rattle.numbers.specs.declared.Number.the-variants.{Value}
 use Rattle.reader.proofs.Digits.{digit-is}
@@ -19,7 +19,7 @@ abbrev pub Stops : List ℕ → Type 0
 Stops [] = Unit {0}
 Stops (b ∷ rest) = 10 ≤ digitOf b
 
-stops : (most limit : ℕ) (rest : List ℕ) (n v at : ℕ) → Stops rest → numberGo most limit rest n v at ≡ ended n v at
+stops : (most limit : ℕ) (rest : List ℕ) (n v at : ℕ) → Stops rest → numberGo most limit rest n v at ≡ digitsEnded n v at
 unfolding numberGo
 stops most limit [] n v at h = refl
 stops most limit (b ∷ rest) n v at h = simp (le-ltb _ _ h)
@@ -60,7 +60,7 @@ read-fixed most limit (suc k) m rest n v at h j l =
 
 pub number-back : (most limit n : ℕ) (rest : List ℕ) (at : ℕ) → n ≤ limit → n < 10 ^ 10 → widthOf n ≤ most → Stops rest
     → numberGo most limit (decimal n ++ rest) 0 0 at ≡ Value n (at + widthOf n)
-unfolding decimal ended
+unfolding decimal digitsEnded
 number-back most limit n rest at l b m s =
     let w : ℕ = widthOf n in
     let value : 0 * 10 ^ w + n ≡ n = omega arith in

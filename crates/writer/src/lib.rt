@@ -14,7 +14,8 @@ pub enum Put {
 
 // Writes bytes.
 pub fn put_bytes(dst: &mut [u8], at: usize, bytes: &[u8]) -> Put
-    ensures { λ r. ⌜ (r ≡ putAnswer (now (bytes .entry)) (now (dst .entry)) at) × (now (dst .exit) ≡ putInto (now (bytes .entry)) (now (dst .entry)) at) ⌝ }
+    ensures { λ r. ⌜ (r ≡ putAnswer (now (bytes .entry)) (now (dst .entry)) at)
+        × (now (dst .exit) ≡ putInto (now (bytes .entry)) (now (dst .entry)) at) ⌝ }
 {
     if !has_room(dst.len(), at, bytes.len()) {
         return Put::NoRoom;
@@ -31,7 +32,8 @@ pub fn put_bytes(dst: &mut [u8], at: usize, bytes: &[u8]) -> Put
 
 // Writes a number below 100 in two digits.
 pub fn put_two_digits(dst: &mut [u8], at: usize, n: u8) -> Put
-    ensures { λ r. ⌜ (r ≡ putAnswer (twoDigits n) (now (dst .entry)) at) × (now (dst .exit) ≡ putInto (twoDigits n) (now (dst .entry)) at) ⌝ }
+    ensures { λ r. ⌜ (r ≡ putAnswer (twoDigits n) (now (dst .entry)) at)
+        × (now (dst .exit) ≡ putInto (twoDigits n) (now (dst .entry)) at) ⌝ }
 {
     let digits = [48 + n / 10, 48 + n % 10];
     put_bytes(dst, at, &digits)
@@ -50,7 +52,8 @@ fn capital_digit(d: u8) -> u8
 
 // Writes bytes as hex data, two capital digits for each and nothing between.
 pub fn put_hex(dst: &mut [u8], at: usize, bytes: &[u8]) -> Put
-    ensures { λ r. ⌜ (r ≡ putAnswer (hexText (now (bytes .entry))) (now (dst .entry)) at) × (now (dst .exit) ≡ putInto (hexText (now (bytes .entry))) (now (dst .entry)) at) ⌝ }
+    ensures { λ r. ⌜ (r ≡ putAnswer (hexText (now (bytes .entry))) (now (dst .entry)) at)
+        × (now (dst .exit) ≡ putInto (hexText (now (bytes .entry))) (now (dst .entry)) at) ⌝ }
 {
     if dst.len() < at {
         return Put::NoRoom;
@@ -72,7 +75,8 @@ pub fn put_hex(dst: &mut [u8], at: usize, bytes: &[u8]) -> Put
 
 // Writes one byte as two capital hex digits.
 pub fn put_hex_digits(dst: &mut [u8], at: usize, b: u8) -> Put
-    ensures { λ r. ⌜ (r ≡ putAnswer (hexText (b ∷ [])) (now (dst .entry)) at) × (now (dst .exit) ≡ putInto (hexText (b ∷ [])) (now (dst .entry)) at) ⌝ }
+    ensures { λ r. ⌜ (r ≡ putAnswer (hexText (b ∷ [])) (now (dst .entry)) at)
+        × (now (dst .exit) ≡ putInto (hexText (b ∷ [])) (now (dst .entry)) at) ⌝ }
 {
     let one = [b];
     put_hex(dst, at, &one)
@@ -103,7 +107,8 @@ fn width(n: u32) -> Digits
 
 // Writes a number in decimal digits, with no leading zero.
 pub fn put_decimal(dst: &mut [u8], at: usize, n: u32) -> Put
-    ensures { λ r. ⌜ (r ≡ putAnswer (decimal n) (now (dst .entry)) at) × (now (dst .exit) ≡ putInto (decimal n) (now (dst .entry)) at) ⌝ }
+    ensures { λ r. ⌜ (r ≡ putAnswer (decimal n) (now (dst .entry)) at)
+        × (now (dst .exit) ≡ putInto (decimal n) (now (dst .entry)) at) ⌝ }
 {
     let all = width(n);
     let mut left = all.count;

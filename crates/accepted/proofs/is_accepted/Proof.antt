@@ -40,10 +40,10 @@ settings-fit-requires c κs = search needs
 
 lines-requires : tie.Need-lines-requires
 lines-requires c κs =
-    let k = c .before .before .before .before .before in
-    let u = k .before .before .before in
-    let e = u .cells-in-use .ensures in
-    let to = k .before .reach .given .1 in
+    let at-known-told = c .before .before .before .before .before in
+    let at-cells-in-use = at-known-told .before .before .before in
+    let e = at-cells-in-use .cells-in-use .ensures in
+    let to = at-known-told .before .reach .given .1 in
     (some-process _ e to, in-use-is _ e to, in-use-few _ e to)
 
 largest-requires : tie.Need-largest-requires
@@ -60,59 +60,93 @@ enum-told-3 c = search needs
 
 returns : tie.Need-returns
 returns c =
-    let l = c .before .before .before .before in
-    let k = l .before .before .before .before .before .before in
-    let u = k .before .before .before in
-    let s = u .before in
-    as-measured _ (typed s) (bytes (s .before .before)) (u .cells-in-use .ensures) (k .before .reach .given .1) (l .before .before .before .before .cells-right .ensures) (l .before .before .before .if1 .taken) (l .before .before .settings-fit .ensures) (l .before .if2 .taken) (l .lines .ensures) (c .before .before .before .if3 .taken) (c .before .before .largest .ensures .0) (c .enum-told .given .1) refl
+    let at-largest = c .before .before in
+    let at-if3 = at-largest .before in
+    let at-lines = at-if3 .before in
+    let at-settings-fit = at-lines .before .before in
+    let at-if1 = at-settings-fit .before in
+    let at-cells-right = at-if1 .before in
+    let at-known-told = at-cells-right .before .before in
+    let at-cells-in-use = at-known-told .before .before .before in
+    let at-bytes = at-cells-in-use .before in
+    as-measured _ (typed at-bytes) (bytes (at-bytes .before .before)) (at-cells-in-use .cells-in-use .ensures)
+    (at-known-told .before .reach .given .1) (at-cells-right .cells-right .ensures) (at-if1 .if1 .taken)
+    (at-settings-fit .settings-fit .ensures) (at-lines .before .if2 .taken) (at-lines .lines .ensures)
+    (at-if3 .if3 .taken) (at-largest .largest .ensures .0) (c .enum-told .given .1) refl
 
 returns-2 : tie.Need-returns-2
 returns-2 c =
-    let l = c .before .before .before .before in
-    let k = l .before .before .before .before .before .before in
-    let u = k .before .before .before in
-    let s = u .before in
-    as-measured _ (typed s) (bytes (s .before .before)) (u .cells-in-use .ensures) (k .before .reach .given .1) (l .before .before .before .before .cells-right .ensures) (l .before .before .before .if1 .taken) (l .before .before .settings-fit .ensures) (l .before .if2 .taken) (l .lines .ensures) (c .before .before .before .if3 .taken) (c .before .before .largest .ensures .0) (c .enum-told2 .given .1) refl
+    let at-largest = c .before .before in
+    let at-if3 = at-largest .before in
+    let at-lines = at-if3 .before in
+    let at-settings-fit = at-lines .before .before in
+    let at-if1 = at-settings-fit .before in
+    let at-cells-right = at-if1 .before in
+    let at-known-told = at-cells-right .before .before in
+    let at-cells-in-use = at-known-told .before .before .before in
+    let at-bytes = at-cells-in-use .before in
+    as-measured _ (typed at-bytes) (bytes (at-bytes .before .before)) (at-cells-in-use .cells-in-use .ensures)
+    (at-known-told .before .reach .given .1) (at-cells-right .cells-right .ensures) (at-if1 .if1 .taken)
+    (at-settings-fit .settings-fit .ensures) (at-lines .before .if2 .taken) (at-lines .lines .ensures)
+    (at-if3 .if3 .taken) (at-largest .largest .ensures .0) (c .enum-told2 .given .1) refl
 
 returns-3 : tie.Need-returns-3
 returns-3 c =
-    let l = c .before .before .before .before in
-    let k = l .before .before .before .before .before .before in
-    let u = k .before .before .before in
-    let s = u .before in
-    as-measured _ (typed s) (bytes (s .before .before)) (u .cells-in-use .ensures) (k .before .reach .given .1) (l .before .before .before .before .cells-right .ensures) (l .before .before .before .if1 .taken) (l .before .before .settings-fit .ensures) (l .before .if2 .taken) (l .lines .ensures) (c .before .before .before .if3 .taken) (c .before .before .largest .ensures .0) (c .enum-told3 .given .1) refl
+    let at-largest = c .before .before in
+    let at-if3 = at-largest .before in
+    let at-lines = at-if3 .before in
+    let at-settings-fit = at-lines .before .before in
+    let at-if1 = at-settings-fit .before in
+    let at-cells-right = at-if1 .before in
+    let at-known-told = at-cells-right .before .before in
+    let at-cells-in-use = at-known-told .before .before .before in
+    let at-bytes = at-cells-in-use .before in
+    as-measured _ (typed at-bytes) (bytes (at-bytes .before .before)) (at-cells-in-use .cells-in-use .ensures)
+    (at-known-told .before .reach .given .1) (at-cells-right .cells-right .ensures) (at-if1 .if1 .taken)
+    (at-settings-fit .settings-fit .ensures) (at-lines .before .if2 .taken) (at-lines .lines .ensures)
+    (at-if3 .if3 .taken) (at-largest .largest .ensures .0) (c .enum-told3 .given .1) refl
 
 enum-told-4 : tie.Need-enum-told-4
 enum-told-4 c = search needs
 
 returns-4 : tie.Need-returns-4
 returns-4 c =
-    let l = c .before in
-    let k = l .before .before .before .before .before .before in
-    let u = k .before .before .before in
-    let s = u .before in
-    not-lines _ (typed s) (bytes (s .before .before)) (u .cells-in-use .ensures) (k .before .reach .given .1) (l .before .before .before .before .cells-right .ensures) (l .before .before .before .if1 .taken) (l .before .before .settings-fit .ensures) (l .before .if2 .taken) (l .lines .ensures) (c .if3 .left)
+    let at-lines = c .before in
+    let at-settings-fit = at-lines .before .before in
+    let at-if1 = at-settings-fit .before in
+    let at-cells-right = at-if1 .before in
+    let at-known-told = at-cells-right .before .before in
+    let at-cells-in-use = at-known-told .before .before .before in
+    let at-bytes = at-cells-in-use .before in
+    not-lines _ (typed at-bytes) (bytes (at-bytes .before .before)) (at-cells-in-use .cells-in-use .ensures)
+    (at-known-told .before .reach .given .1) (at-cells-right .cells-right .ensures) (at-if1 .if1 .taken)
+    (at-settings-fit .settings-fit .ensures) (at-lines .before .if2 .taken) (at-lines .lines .ensures) (c .if3 .left)
 
 returns-5 : tie.Need-returns-5
 returns-5 c =
-    let f = c .before in
-    let k = f .before .before .before .before in
-    let u = k .before .before .before in
-    let s = u .before in
-    not-settings _ (typed s) (bytes (s .before .before)) (u .cells-in-use .ensures) (k .before .reach .given .1) (f .before .before .cells-right .ensures) (f .before .if1 .taken) (f .settings-fit .ensures) (c .if2 .left)
+    let at-settings-fit = c .before in
+    let at-cells-right = at-settings-fit .before .before in
+    let at-known-told = at-cells-right .before .before in
+    let at-cells-in-use = at-known-told .before .before .before in
+    let at-bytes = at-cells-in-use .before in
+    not-settings _ (typed at-bytes) (bytes (at-bytes .before .before)) (at-cells-in-use .cells-in-use .ensures)
+    (at-known-told .before .reach .given .1) (at-cells-right .cells-right .ensures)
+    (at-settings-fit .before .if1 .taken) (at-settings-fit .settings-fit .ensures) (c .if2 .left)
 
 returns-6 : tie.Need-returns-6
 returns-6 c =
-    let k = c .before .before .before in
-    let u = k .before .before .before in
-    let s = u .before in
-    not-cells _ (typed s) (bytes (s .before .before)) (u .cells-in-use .ensures) (k .before .reach .given .1) (c .before .cells-right .ensures) (c .if1 .left)
+    let at-known-told = c .before .before .before in
+    let at-cells-in-use = at-known-told .before .before .before in
+    let at-bytes = at-cells-in-use .before in
+    not-cells _ (typed at-bytes) (bytes (at-bytes .before .before)) (at-cells-in-use .cells-in-use .ensures)
+    (at-known-told .before .reach .given .1) (c .before .cells-right .ensures) (c .if1 .left)
 
 returns-7 : tie.Need-returns-7
 returns-7 c =
-    let u = c .before .before in
-    let s = u .before in
-    not-ends _ (typed s) (bytes (s .before .before)) (u .cells-in-use .ensures) (c .enum-told4 .given .1)
+    let at-cells-in-use = c .before .before in
+    let at-bytes = at-cells-in-use .before in
+    not-ends _ (typed at-bytes) (bytes (at-bytes .before .before)) (at-cells-in-use .cells-in-use .ensures)
+    (c .enum-told4 .given .1)
 
 pub is-accepted-spec : {M : Type 1} → statement M
 is-accepted-spec =

@@ -12,15 +12,22 @@ refuse-requires : tie.Need-refuse-requires
 refuse-requires c κs = search needs
 
 returns : tie.Need-returns
-returns c = let a = c .before .before .before .before .args in
-    c .refuse .ensures ∙ sym (tick-busy (a .s) (sym (c .before .before .any-ready .ensures) ∙ c .before .if1 .taken))
+returns c =
+    let at-any-ready = c .before .before in
+    let at-entry = at-any-ready .before .before in
+    let a = at-entry .args in
+    c .refuse .ensures ∙ sym (tick-busy (a .s) (sym (at-any-ready .any-ready .ensures) ∙ c .before .if1 .taken))
 
 all-ticked-requires : tie.Need-all-ticked-requires
 all-ticked-requires c κs = search needs
 
 returns-2 : tie.Need-returns-2
-returns-2 c = let a = c .before .before .before .before .args in
-    rw (c .all-ticked .ensures) (sym (tick-takes (a .s) (sym (c .before .before .any-ready .ensures) ∙ c .before .if1 .left)))
+returns-2 c =
+    let at-any-ready = c .before .before in
+    let at-entry = at-any-ready .before .before in
+    let a = at-entry .args in
+    rw (c .all-ticked .ensures)
+    (sym (tick-takes (a .s) (sym (at-any-ready .any-ready .ensures) ∙ c .before .if1 .left)))
 
 pub tick-spec : {M : Type 1} → statement M
 tick-spec =

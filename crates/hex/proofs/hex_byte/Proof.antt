@@ -17,8 +17,9 @@ digit-requires c κs = search needs
 
 returns-2 : tie.Need-returns-2
 returns-2 c =
-    let d = c .before in
-    sym (hex-byte-on _ _ (d .before .before .if1 .left) (d .digit .ensures) ∙ simp (le-ltb _ _ (c .if2 .taken)))
+    let at-digit = c .before in
+    sym (hex-byte-on _ _ (at-digit .before .before .if1 .left) (at-digit .digit .ensures)
+    ∙ simp (le-ltb _ _ (c .if2 .taken)))
 
 add-next : tie.Need-add-next
 add-next c = search needs
@@ -28,8 +29,9 @@ cast-t10 c = search needs
 
 returns-3 : tie.Need-returns-3
 returns-3 c =
-    let d = c .before .before in
-    sym (hex-byte-first _ _ (d .before .before .if1 .left) (d .digit .ensures) (c .before .if2 .left) ∙ hex-second-none _ _ (c .if3 .taken) _)
+    let at-digit = c .before .before in
+    sym (hex-byte-first _ _ (at-digit .before .before .if1 .left) (at-digit .digit .ensures) (c .before .if2 .left)
+    ∙ hex-second-none _ _ (c .if3 .taken) _)
 
 shared-slice-read-digit-2 : tie.Need-shared-slice-read-digit-2
 shared-slice-read-digit-2 c = search needs
@@ -42,11 +44,13 @@ cast-t12 c = search needs
 
 returns-4 : tie.Need-returns-4
 returns-4 c =
-    let e = c .before in
-    let d = e .before .before .before .before in
+    let at-digit2 = c .before in
+    let at-if3 = at-digit2 .before .before in
+    let at-if2 = at-if3 .before in
+    let at-digit = at-if2 .before in
     sym
-    (hex-byte-first _ _ (d .before .before .if1 .left) (d .digit .ensures) (e .before .before .before .if2 .left)
-    ∙ hex-second-on _ _ (e .before .before .if3 .left) (e .digit2 .ensures) _
+    (hex-byte-first _ _ (at-digit .before .before .if1 .left) (at-digit .digit .ensures) (at-if2 .if2 .left)
+    ∙ hex-second-on _ _ (at-if3 .if3 .left) (at-digit2 .digit2 .ensures) _
     ∙ simp (le-ltb _ _ (c .if4 .taken)))
 
 mul-t9 : tie.Need-mul-t9
@@ -63,11 +67,13 @@ add-t6 c = search needs
 
 returns-5 : tie.Need-returns-5
 returns-5 c =
-    let e = c .before in
-    let d = e .before .before .before .before in
+    let at-digit2 = c .before in
+    let at-if3 = at-digit2 .before .before in
+    let at-if2 = at-if3 .before in
+    let at-digit = at-if2 .before in
     sym
-    (hex-byte-first _ _ (d .before .before .if1 .left) (d .digit .ensures) (e .before .before .before .if2 .left)
-    ∙ hex-second-on _ _ (e .before .before .if3 .left) (e .digit2 .ensures) _
+    (hex-byte-first _ _ (at-digit .before .before .if1 .left) (at-digit .digit .ensures) (at-if2 .if2 .left)
+    ∙ hex-second-on _ _ (at-if3 .if3 .left) (at-digit2 .digit2 .ensures) _
     ∙ simp (lt-ltb _ _ (c .if4 .left)))
 
 pub hex-byte-spec : {M : Type 1} → statement M

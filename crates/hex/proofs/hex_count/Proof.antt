@@ -31,8 +31,9 @@ enum-told c = search needs
 
 returns : tie.Need-returns Inv-loop μ-loop
 returns c =
-    let e = c .before .before in
-    sym (refused (e .before .before .before .loop .inv) (omega arith) (sym (c .enum-told .given .1) ∙ e .hex-step .ensures))
+    let at-hex-step = c .before .before in
+    let at-loop = at-hex-step .before .before .before in
+    sym (refused (at-loop .loop .inv) (omega arith) (sym (c .enum-told .given .1) ∙ at-hex-step .hex-step .ensures))
 
 enum-told-2 : tie.Need-enum-told-2 Inv-loop μ-loop
 enum-told-2 c = search needs
@@ -51,24 +52,27 @@ loop-less c = omega arith
 
 loop-again : tie.Need-loop-again Inv-loop μ-loop
 loop-again c =
-    let e = c .before .before in
-    skipped (e .before .before .before .loop .inv) (omega arith) (sym (c .enum-told2 .given .1) ∙ e .hex-step .ensures)
+    let at-hex-step = c .before .before in
+    let at-loop = at-hex-step .before .before .before in
+    skipped (at-loop .loop .inv) (omega arith) (sym (c .enum-told2 .given .1) ∙ at-hex-step .hex-step .ensures)
 
 loop-less-2 : tie.Need-loop-less-2 Inv-loop μ-loop
 loop-less-2 c = omega arith
 
 loop-again-2 : tie.Need-loop-again-2 Inv-loop μ-loop
 loop-again-2 c =
-    let e = c .before .before .before in
-    paired (e .before .before .before .loop .inv) (omega arith) (sym (c .before .h .given .1) ∙ e .hex-step .ensures)
+    let at-hex-step = c .before .before .before in
+    let at-loop = at-hex-step .before .before .before in
+    paired (at-loop .loop .inv) (omega arith) (sym (c .before .h .given .1) ∙ at-hex-step .hex-step .ensures)
 
 loop-less-3 : tie.Need-loop-less-3 Inv-loop μ-loop
 loop-less-3 c = omega arith
 
 loop-again-3 : tie.Need-loop-again-3 Inv-loop μ-loop
 loop-again-3 c =
-    let e = c .before .before in
-    one-more (e .before .before .before .loop .inv) (omega arith) (sym (c .enum-told3 .given .1) ∙ e .hex-step .ensures)
+    let at-hex-step = c .before .before in
+    let at-loop = at-hex-step .before .before .before in
+    one-more (at-loop .loop .inv) (omega arith) (sym (c .enum-told3 .given .1) ∙ at-hex-step .hex-step .ensures)
 
 returns-2 : tie.Need-returns-2 Inv-loop μ-loop
 returns-2 c = sym (odd-end (c .before .before .loop .inv) (omega arith) (omega arith))

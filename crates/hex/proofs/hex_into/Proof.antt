@@ -20,30 +20,37 @@ has-room-requires c κs = search needs
 
 hex-write-requires : tie.Need-hex-write-requires
 hex-write-requires c κs =
-    let r = c .before .before in
-    let n = r .before .before in
-    let told = sym (n .count2 .given .1) ∙ n .before .before .hex-count .ensures in
-    (counted-good _ told, counted-room _ _ _ told (leb-true _ _ (sym (r .has-room .ensures) ∙ c .before .if1 .taken)))
+    let at-has-room = c .before .before in
+    let at-count2 = at-has-room .before .before in
+    let told = sym (at-count2 .count2 .given .1) ∙ at-count2 .before .before .hex-count .ensures in (
+      counted-good _ told,
+      counted-room _ _ _ told (leb-true _ _ (sym (at-has-room .has-room .ensures) ∙ c .before .if1 .taken)),
+    )
 
 same-length : tie.Need-same-length
 same-length c = search needs
 
 returns : tie.Need-returns
 returns c =
-    let w = c .before .before in
-    let r = w .before .before .before in
-    let n = r .before .before in
-    let f = into-fits _ _ _ (sym (n .count2 .given .1) ∙ n .before .before .hex-count .ensures) (r .has-room .ensures) (w .before .before .if1 .taken) in
-    (f .0, w .hex-write .ensures ∙ f .1)
+    let at-hex-write = c .before .before in
+    let at-if1 = at-hex-write .before .before in
+    let at-has-room = at-if1 .before in
+    let at-count2 = at-has-room .before .before in
+    let f = into-fits _ _ _ (sym (at-count2 .count2 .given .1) ∙ at-count2 .before .before .hex-count .ensures)
+    (at-has-room .has-room .ensures) (at-if1 .if1 .taken) in
+    (f .0, at-hex-write .hex-write .ensures ∙ f .1)
 
 returns-2 : tie.Need-returns-2
-returns-2 c = into-wrong _ _ _ (sym (c .before .count .given .1) ∙ c .before .before .before .hex-count .ensures)
+returns-2 c =
+    let at-hex-count = c .before .before .before in
+    into-wrong _ _ _ (sym (c .before .count .given .1) ∙ at-hex-count .hex-count .ensures)
 
 returns-3 : tie.Need-returns-3
 returns-3 c =
-    let r = c .before in
-    let n = r .before .before in
-    into-full _ _ _ (sym (n .count2 .given .1) ∙ n .before .before .hex-count .ensures) (r .has-room .ensures) (c .if1 .left)
+    let at-has-room = c .before in
+    let at-count2 = at-has-room .before .before in
+    into-full _ _ _ (sym (at-count2 .count2 .given .1) ∙ at-count2 .before .before .hex-count .ensures)
+    (at-has-room .has-room .ensures) (c .if1 .left)
 
 pub hex-into-spec : {M : Type 1} → statement M
 hex-into-spec =

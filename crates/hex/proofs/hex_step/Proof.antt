@@ -28,20 +28,37 @@ blank-requires c κs = search needs
 returns-3 : tie.Need-returns-3
 unfolding stepOf
 returns-3 c =
-    let b = c .before .before in
-    simp (← b .before .before .digit .ensures, le-ltb _ _ (b .before .if1 .left), ← b .blank .ensures, c .before .if3 .taken, lt-ltb _ _ (c .if4 .taken))
+    let at-blank = c .before .before in
+    simp (
+      ← at-blank .before .before .digit .ensures,
+      le-ltb _ _ (at-blank .before .if1 .left),
+      ← at-blank .blank .ensures,
+      c .before .if3 .taken,
+      lt-ltb _ _ (c .if4 .taken),
+    )
 
 returns-4 : tie.Need-returns-4
 unfolding stepOf
 returns-4 c =
-    let b = c .before .before in
-    simp (← b .before .before .digit .ensures, le-ltb _ _ (b .before .if1 .left), ← b .blank .ensures, c .before .if3 .taken, le-ltb _ _ (c .if4 .left))
+    let at-blank = c .before .before in
+    simp (
+      ← at-blank .before .before .digit .ensures,
+      le-ltb _ _ (at-blank .before .if1 .left),
+      ← at-blank .blank .ensures,
+      c .before .if3 .taken,
+      le-ltb _ _ (c .if4 .left),
+    )
 
 returns-5 : tie.Need-returns-5
 unfolding stepOf
 returns-5 c =
-    let b = c .before in
-    simp (← b .before .before .digit .ensures, le-ltb _ _ (b .before .if1 .left), ← b .blank .ensures, c .if3 .left)
+    let at-blank = c .before in
+    simp (
+      ← at-blank .before .before .digit .ensures,
+      le-ltb _ _ (at-blank .before .if1 .left),
+      ← at-blank .blank .ensures,
+      c .if3 .left,
+    )
 
 pub hex-step-spec : {M : Type 1} → statement M
 hex-step-spec =

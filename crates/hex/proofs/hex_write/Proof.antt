@@ -3,14 +3,15 @@ use Prim.Native.Nat.{_-_}
 use mathlib.Core.Path.{sym, _∙_}
 use native.Mathlib.Omega.{arith}
 use lib.ListN.{length}
-use Rattle.hex.specs.Hex.{hexAt, bytesOf}
+use Rattle.hex.specs.Hex.{hexAt}
+use Rattle.hex.specs.inside.Said.{saidBytes}
 use Rattle.hex.proofs.Stepping.{Writing, unwritten, all-written, none-refused, parted, begins, room-there, byte-stored}
 use borrow.Author.Needs.{needs}
 use Rattle.hex.proofs.hex_write.Statement.{statement}
 use Rattle.hex.proofs.hex_write.Tie as tie
 
 abbrev Inv-loop : tie.InvT-loop
-Inv-loop s at dst₀ to place₀ half₀ i₀ dst place half i = Writing s dst₀ to (bytesOf (hexAt s at)) dst place half i
+Inv-loop s at dst₀ to place₀ half₀ i₀ dst place half i = Writing s dst₀ to (saidBytes (hexAt s at)) dst place half i
 
 abbrev μ-loop : tie.MeasureT-loop
 μ-loop s at dst₀ to place₀ half₀ i₀ dst place half i = length s - i
@@ -31,10 +32,15 @@ enum-told : tie.Need-enum-told Inv-loop μ-loop
 enum-told c = search needs
 
 same-length : tie.Need-same-length Inv-loop μ-loop
-same-length c = c .before .before .before .before .before .loop .inv .placing .long
+same-length c =
+    let at-loop = c .before .before .before .before .before in
+    at-loop .loop .inv .placing .long
 
 returns : tie.Need-returns Inv-loop μ-loop
-returns c = none-refused (c .before .before .before .before .before .loop .inv) (omega arith) (sym (c .enum-told .given .1) ∙ c .before .before .hex-step .ensures)
+returns c =
+    let at-hex-step = c .before .before in
+    let at-loop = at-hex-step .before .before .before in
+    none-refused (at-loop .loop .inv) (omega arith) (sym (c .enum-told .given .1) ∙ at-hex-step .hex-step .ensures)
 
 enum-told-2 : tie.Need-enum-told-2 Inv-loop μ-loop
 enum-told-2 c = search needs
@@ -46,31 +52,45 @@ enum-known-b : tie.Need-enum-known-b Inv-loop μ-loop
 enum-known-b c = search needs
 
 slice-write-dst : tie.Need-slice-write-dst Inv-loop μ-loop
-slice-write-dst c = room-there (c .before .before .before .before .before .before .loop .inv) (omega arith) (sym (c .before .b .given .1) ∙ c .before .before .before .hex-step .ensures)
+slice-write-dst c =
+    let at-hex-step = c .before .before .before in
+    let at-loop = at-hex-step .before .before .before in
+    room-there (at-loop .loop .inv) (omega arith) (sym (c .before .b .given .1) ∙ at-hex-step .hex-step .ensures)
 
 add-place : tie.Need-add-place Inv-loop μ-loop
 add-place c =
-    let w = c .before .before .before .before .before .before .loop .inv in
-    let h = room-there w (omega arith) (sym (c .before .b .given .1) ∙ c .before .before .before .hex-step .ensures) in
+    let at-hex-step = c .before .before .before in
+    let at-loop = at-hex-step .before .before .before in
+    let w = at-loop .loop .inv in
+    let h = room-there w (omega arith) (sym (c .before .b .given .1) ∙ at-hex-step .hex-step .ensures) in
     omega (arith, w .placing .long)
 
 loop-less : tie.Need-loop-less Inv-loop μ-loop
 loop-less c = omega arith
 
 loop-again : tie.Need-loop-again Inv-loop μ-loop
-loop-again c = parted (c .before .before .before .before .before .loop .inv) (omega arith) (sym (c .enum-told2 .given .1) ∙ c .before .before .hex-step .ensures)
+loop-again c =
+    let at-hex-step = c .before .before in
+    let at-loop = at-hex-step .before .before .before in
+    parted (at-loop .loop .inv) (omega arith) (sym (c .enum-told2 .given .1) ∙ at-hex-step .hex-step .ensures)
 
 loop-less-2 : tie.Need-loop-less-2 Inv-loop μ-loop
 loop-less-2 c = omega arith
 
 loop-again-2 : tie.Need-loop-again-2 Inv-loop μ-loop
-loop-again-2 c = begins (c .before .before .before .before .before .before .loop .inv) (omega arith) (sym (c .before .h .given .1) ∙ c .before .before .before .hex-step .ensures)
+loop-again-2 c =
+    let at-hex-step = c .before .before .before in
+    let at-loop = at-hex-step .before .before .before in
+    begins (at-loop .loop .inv) (omega arith) (sym (c .before .h .given .1) ∙ at-hex-step .hex-step .ensures)
 
 loop-less-3 : tie.Need-loop-less-3 Inv-loop μ-loop
 loop-less-3 c = omega arith
 
 loop-again-3 : tie.Need-loop-again-3 Inv-loop μ-loop
-loop-again-3 c = byte-stored (c .before .before .before .before .before .before .loop .inv) (omega arith) (sym (c .before .b .given .1) ∙ c .before .before .before .hex-step .ensures)
+loop-again-3 c =
+    let at-hex-step = c .before .before .before in
+    let at-loop = at-hex-step .before .before .before in
+    byte-stored (at-loop .loop .inv) (omega arith) (sym (c .before .b .given .1) ∙ at-hex-step .hex-step .ensures)
 
 same-length-2 : tie.Need-same-length-2 Inv-loop μ-loop
 same-length-2 c = c .before .loop .inv .placing .long

@@ -21,9 +21,10 @@ enum-known-length c = search needs
 
 returns : tie.Need-returns
 returns c =
-    let b = c .before .before in
-    let d = b .before .before .before in
-    no-room (table (d .before .before .before)) _ (d .print .ensures .0) (b .length .given .1) (c .if1 .taken)
+    let at-length = c .before .before in
+    let at-print = at-length .before .before .before in
+    let at-entry = at-print .before .before .before in
+    no-room (table at-entry) _ (at-print .print .ensures .0) (at-length .length .given .1) (c .if1 .taken)
 
 print-requires-2 : tie.Need-print-requires-2
 print-requires-2 c κs = search needs
@@ -36,16 +37,19 @@ same-length c = search needs
 
 returns-2 : tie.Need-returns-2
 returns-2 c =
-    let a = c .before .before in
-    let e = a .before .before in
-    let b = e .before .before in
-    let d = b .before .before .before in
-    wrote (table (d .before .before .before)) _ (d .print .ensures .0) (b .length .given .1) (e .if1 .left) (a .print2 .ensures .1)
+    let at-print2 = c .before .before in
+    let at-if1 = at-print2 .before .before in
+    let at-length = at-if1 .before .before in
+    let at-print = at-length .before .before .before in
+    let at-entry = at-print .before .before .before in
+    wrote (table at-entry) _ (at-print .print .ensures .0) (at-length .length .given .1) (at-if1 .if1 .left)
+    (at-print2 .print2 .ensures .1)
 
 returns-3 : tie.Need-returns-3
 returns-3 c =
-    let d = c .before .before .before in
-    bad-table (table (d .before .before .before)) _ (d .print .ensures .0) (c .enum-told .given .1)
+    let at-print = c .before .before .before in
+    let at-entry = at-print .before .before .before in
+    bad-table (table at-entry) _ (at-print .print .ensures .0) (c .enum-told .given .1)
 
 pub list-spec : {M : Type 1} → statement M
 list-spec =

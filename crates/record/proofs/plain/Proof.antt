@@ -1,6 +1,6 @@
 -- `record::plain` meets its contract. Assumes nothing.
 use borrow.Author.Tests.{eq-eqb, ne-eqb}
-use Rattle.record.specs.Pieces.{plainSign}
+use Rattle.record.specs.inside.Signs.{plainSign}
 use Rattle.record.proofs.plain.Statement.{statement}
 use Rattle.record.proofs.plain.Tie as tie
 

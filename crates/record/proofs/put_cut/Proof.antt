@@ -14,7 +14,8 @@ sub-room c = search needs
 
 slice-aggregate-put-bytes : tie.Need-slice-aggregate-put-bytes
 slice-aggregate-put-bytes c =
-    let a = c .before .before .before .before .before .args in
+    let at-entry = c .before .before .before .before .before in
+    let a = at-entry .args in
     sym (length-take-le (127 - a .at) (now (a .bytes)) (omega arith))
 
 put-bytes-requires : tie.Need-put-bytes-requires
@@ -25,9 +26,12 @@ same-length c = search needs
 
 returns : tie.Need-returns
 returns c =
-    let s = c .before .before .before .before .before .before .before .before in
-    let a = s .args in
-    cut-some (now (a .bytes)) (now (a .out)) (a .at) (s .pre .0) (c .before .before .before .before .before .if1 .taken) (c .before .before .put-bytes .ensures .1)
+    let at-put-bytes = c .before .before in
+    let at-if1 = at-put-bytes .before .before .before in
+    let at-entry = at-if1 .before .before .before in
+    let a = at-entry .args in
+    cut-some (now (a .bytes)) (now (a .out)) (a .at) (at-entry .pre .0) (at-if1 .if1 .taken)
+    (at-put-bytes .put-bytes .ensures .1)
 
 put-bytes-requires-2 : tie.Need-put-bytes-requires-2
 put-bytes-requires-2 c κs = search needs
@@ -40,9 +44,12 @@ same-length-2 c = search needs
 
 returns-2 : tie.Need-returns-2
 returns-2 c =
-    let s = c .before .before .before .before .before .before .before in
-    let a = s .args in
-    cut-none (now (a .bytes)) (now (a .out)) (a .at) (s .pre .0) (c .before .before .before .before .if1 .left) (c .before .before .put-bytes2 .ensures .1)
+    let at-put-bytes2 = c .before .before in
+    let at-if1 = at-put-bytes2 .before .before in
+    let at-entry = at-if1 .before .before .before in
+    let a = at-entry .args in
+    cut-none (now (a .bytes)) (now (a .out)) (a .at) (at-entry .pre .0) (at-if1 .if1 .left)
+    (at-put-bytes2 .put-bytes2 .ensures .1)
 
 pub put-cut-spec : {M : Type 1} → statement M
 put-cut-spec =

@@ -14,8 +14,12 @@ same-length c = search needs
 
 returns : tie.Need-returns
 returns c =
-    let a = c .before .before .before .before .before .before .args in
-    put-as (now (a .sign)) 0 (sign-count (a .r) (a .count) (a .b) (c .before .before .before .before .if1 .taken)) (c .before .before .put-decimal .ensures)
+    let at-put-decimal = c .before .before in
+    let at-if1 = at-put-decimal .before .before in
+    let at-entry = at-if1 .before .before in
+    let a = at-entry .args in
+    put-as (now (a .sign)) 0 (sign-count (a .r) (a .count) (a .b) (at-if1 .if1 .taken))
+    (at-put-decimal .put-decimal .ensures)
 
 unit-of-requires : tie.Need-unit-of-requires
 unit-of-requires c κs = search needs
@@ -43,22 +47,28 @@ same-length-2 c = search needs
 
 returns-2 : tie.Need-returns-2
 returns-2 c =
-    let d = c .before .before .before .before .before in
-    let u = d .before .before in
-    let a = u .before .before .before .args in
-    put-as (now (a .sign)) 0 (sign-unit (a .r) (a .count) (a .b) (u .before .if1 .left) (u .unit-of .ensures) (d .unit .given .1)) (c .before .before .put-two-digits .ensures)
+    let at-put-two-digits = c .before .before in
+    let at-unit = at-put-two-digits .before .before .before in
+    let at-unit-of = at-unit .before .before in
+    let at-entry = at-unit-of .before .before .before in
+    let a = at-entry .args in
+    put-as (now (a .sign)) 0 (sign-unit (a .r) (a .count) (a .b) (at-unit-of .before .if1 .left)
+    (at-unit-of .unit-of .ensures) (at-unit .unit .given .1)) (at-put-two-digits .put-two-digits .ensures)
 
 same-length-3 : tie.Need-same-length-3
 same-length-3 c = search needs
 
 returns-3 : tie.Need-returns-3
 returns-3 c =
-    let d = c .before .before .before .before .before in
-    let u = d .before .before .before in
-    let a = u .before .before .before .args in
+    let at-put-bytes = c .before .before in
+    let at-plain = at-put-bytes .before .before .before in
+    let at-unit-of = at-plain .before .before .before in
+    let at-entry = at-unit-of .before .before .before in
+    let a = at-entry .args in
     put-as (now (a .sign)) 0
-    (sign-plain (a .r) (a .count) (a .b) (u .before .if1 .left) (u .unit-of .ensures) (d .before .enum-told .given .1) (d .plain .ensures))
-    (c .before .before .put-bytes .ensures)
+    (sign-plain (a .r) (a .count) (a .b) (at-unit-of .before .if1 .left) (at-unit-of .unit-of .ensures)
+    (at-plain .before .enum-told .given .1) (at-plain .plain .ensures))
+    (at-put-bytes .put-bytes .ensures)
 
 pub put-sign-spec : {M : Type 1} → statement M
 put-sign-spec =

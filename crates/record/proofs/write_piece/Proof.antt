@@ -14,15 +14,18 @@ same-length c = search needs
 
 returns : tie.Need-returns
 returns c =
-    let d = c .before .before .before .before in
-    let a = d .before .before .args in
-    cut-as (now (a .out)) (a .at) (piece-sign (a .r) (a .count) (a .b) (d .if1 .taken)) (c .before .before .write-sign .ensures)
+    let at-write-sign = c .before .before in
+    let at-if1 = at-write-sign .before .before in
+    let a = at-if1 .before .before .args in
+    cut-as (now (a .out)) (a .at) (piece-sign (a .r) (a .count) (a .b) (at-if1 .if1 .taken))
+    (at-write-sign .write-sign .ensures)
 
 returns-2 : tie.Need-returns-2
 returns-2 c =
-    let s = c .before .before .before in
-    let a = s .args in
-    cut-nothing _ (now (a .out)) (a .at) (s .pre .0) (s .pre .1) (piece-none (a .r) (a .count) (a .b) (c .before .if1 .left) (c .if2 .taken))
+    let at-entry = c .before .before .before in
+    let a = at-entry .args in
+    cut-nothing _ (now (a .out)) (a .at) (at-entry .pre .0) (at-entry .pre .1)
+    (piece-none (a .r) (a .count) (a .b) (c .before .if1 .left) (c .if2 .taken))
 
 slice-aggregate-put-cut : tie.Need-slice-aggregate-put-cut
 slice-aggregate-put-cut c = search needs
@@ -35,9 +38,12 @@ same-length-2 c = search needs
 
 returns-3 : tie.Need-returns-3
 returns-3 c =
-    let d = c .before .before .before .before .before in
-    let a = d .before .before .before .args in
-    cut-as (now (a .out)) (a .at) (piece-one (a .r) (a .count) (a .b) (d .before .if1 .left) (d .if2 .left)) (c .before .before .put-cut .ensures)
+    let at-put-cut = c .before .before in
+    let at-if2 = at-put-cut .before .before .before in
+    let at-entry = at-if2 .before .before .before in
+    let a = at-entry .args in
+    cut-as (now (a .out)) (a .at) (piece-one (a .r) (a .count) (a .b) (at-if2 .before .if1 .left) (at-if2 .if2 .left))
+    (at-put-cut .put-cut .ensures)
 
 pub write-piece-spec : {M : Type 1} → statement M
 write-piece-spec =

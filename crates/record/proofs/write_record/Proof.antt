@@ -23,7 +23,8 @@ abbrev μ-loop : tie.MeasureT-loop
 
 returns : tie.Need-returns Inv-loop μ-loop
 returns c =
-    let a = c .before .before .before .args in
+    let at-entry = c .before .before .before in
+    let a = at-entry .args in
     record-small (a .r) (a .count) (now (a .text)) (now (a .out)) (c .if1 .taken)
 
 loop-holds : tie.Need-loop-holds Inv-loop μ-loop
@@ -34,7 +35,8 @@ shared-slice-read-b c = search needs
 
 write-piece-requires : tie.Need-write-piece-requires Inv-loop μ-loop
 write-piece-requires c κs =
-    let i = c .before .before .before .loop .inv in
+    let at-loop = c .before .before .before in
+    let i = at-loop .loop .inv in
     (i .few, omega (arith, i .room, i .long))
 
 begins-sign-requires : tie.Need-begins-sign-requires Inv-loop μ-loop
@@ -48,12 +50,16 @@ loop-less c = search needs
 
 loop-again : tie.Need-loop-again Inv-loop μ-loop
 loop-again c =
-    let t = c .before .before .before .before .before .before in
-    let l = t .before .loop in
-    let a = t .before .before .before .before .before .args in
+    let at-write-piece = c .before .before .before in
+    let at-loop-test = at-write-piece .before .before .before in
+    let at-loop = at-loop-test .before in
+    let at-entry = at-loop .before .before .before .before in
+    let l = at-loop .loop in
+    let a = at-entry .args in
     cut-on _ _
-    (piece-at (a .r) (a .count) (now (a .text)) (l .i) (l .signed) (t .loop-test .taken) (c .begins-sign .ensures))
-    (c .before .before .before .write-piece .ensures)
+    (piece-at (a .r) (a .count) (now (a .text)) (l .i) (l .signed) (at-loop-test .loop-test .taken)
+    (c .begins-sign .ensures))
+    (at-write-piece .write-piece .ensures)
     (l .inv)
 
 same-length : tie.Need-same-length Inv-loop μ-loop
@@ -62,10 +68,13 @@ same-length c = c .before .loop .inv .long
 returns-2 : tie.Need-returns-2 Inv-loop μ-loop
 unfolding writtenOut
 returns-2 c =
-    let a = c .before .before .before .before .before .args in
-    let l = c .before .loop in
+    let at-loop = c .before in
+    let at-entry = at-loop .before .before .before .before in
+    let a = at-entry .args in
+    let l = at-loop .loop in
     record-whole (a .r) (a .count) (now (a .text)) (now (a .out)) (l .inv .room)
-    (cut-done (ap (λ (t : List ℕ). writtenOut (a .r) (a .count) t (l .signed)) (drop-of-length-le (now (a .text)) (c .loop-test .left))) (l .inv))
+    (cut-done (ap (λ (t : List ℕ). writtenOut (a .r) (a .count) t (l .signed))
+    (drop-of-length-le (now (a .text)) (c .loop-test .left))) (l .inv))
 
 pub write-record-spec : {M : Type 1} → statement M
 write-record-spec =

@@ -21,24 +21,32 @@ enum-known-put c = search needs
 
 array-share-prefix-sign : tie.Need-array-share-prefix-sign
 array-share-prefix-sign c =
-    let s = c .before .before .before .before .before in
-    let a = s .before .before .before .args in
+    let at-put = c .before .before in
+    let at-put-sign = at-put .before .before .before in
+    let at-entry = at-put-sign .before .before .before in
+    let a = at-entry .args in
     let few = sign-few (a .r) (a .count) (a .b) (omega arith) in
     omega (
       arith,
       few,
-      put-end (signText (a .r) (a .count) (a .b)) (replicate 10 0) few (s .put-sign .ensures .0) (s .put-sign .ensures .1) (c .before .before .put .given .1),
-      put-long (signText (a .r) (a .count) (a .b)) (replicate 10 0) few (s .put-sign .ensures .0) (s .put-sign .ensures .1),
+      put-end (signText (a .r) (a .count) (a .b)) (replicate 10 0) few (at-put-sign .put-sign .ensures .0)
+          (at-put-sign .put-sign .ensures .1) (at-put .put .given .1),
+      put-long (signText (a .r) (a .count) (a .b)) (replicate 10 0) few (at-put-sign .put-sign .ensures .0)
+          (at-put-sign .put-sign .ensures .1),
     )
 
 slice-aggregate-put-cut : tie.Need-slice-aggregate-put-cut
 slice-aggregate-put-cut c =
-    let s = c .before .before .before .before .before .before in
-    let a = s .before .before .before .args in
+    let at-put = c .before .before .before in
+    let at-put-sign = at-put .before .before .before in
+    let at-entry = at-put-sign .before .before .before in
+    let a = at-entry .args in
     let few = sign-few (a .r) (a .count) (a .b) (omega arith) in
-    let e = c .before .before .before .put .given .1 in
-    put-end (signText (a .r) (a .count) (a .b)) (replicate 10 0) few (s .put-sign .ensures .0) (s .put-sign .ensures .1) e
-    ∙ sym (ap length (put-text (signText (a .r) (a .count) (a .b)) (replicate 10 0) few (s .put-sign .ensures .0) (s .put-sign .ensures .1) e))
+    let e = at-put .put .given .1 in
+    put-end (signText (a .r) (a .count) (a .b)) (replicate 10 0) few (at-put-sign .put-sign .ensures .0)
+    (at-put-sign .put-sign .ensures .1) e
+    ∙ sym (ap length (put-text (signText (a .r) (a .count) (a .b)) (replicate 10 0) few
+    (at-put-sign .put-sign .ensures .0) (at-put-sign .put-sign .ensures .1) e))
 
 put-cut-requires : tie.Need-put-cut-requires
 put-cut-requires c κs = search needs
@@ -51,19 +59,25 @@ same-length c = search needs
 
 returns : tie.Need-returns
 returns c =
-    let s = c .before .before .before .before .before .before .before .before .before in
-    let a = s .before .before .before .args in
+    let at-put-cut = c .before .before in
+    let at-put = at-put-cut .before .before .before .before in
+    let at-put-sign = at-put .before .before .before in
+    let at-entry = at-put-sign .before .before .before in
+    let a = at-entry .args in
     let few = sign-few (a .r) (a .count) (a .b) (omega arith) in
     cut-as (now (a .out)) (a .at)
-    (put-text (signText (a .r) (a .count) (a .b)) (replicate 10 0) few (s .put-sign .ensures .0) (s .put-sign .ensures .1) (c .before .before .before .before .before .before .put .given .1))
-    (c .before .before .put-cut .ensures)
+    (put-text (signText (a .r) (a .count) (a .b)) (replicate 10 0) few (at-put-sign .put-sign .ensures .0)
+    (at-put-sign .put-sign .ensures .1) (at-put .put .given .1))
+    (at-put-cut .put-cut .ensures)
 
 returns-2 : tie.Need-returns-2
 returns-2 c =
-    let s = c .before .before .before in
-    let a = s .before .before .before .args in
+    let at-put-sign = c .before .before .before in
+    let at-entry = at-put-sign .before .before .before in
+    let a = at-entry .args in
     let few = sign-few (a .r) (a .count) (a .b) (omega arith) in
-    absurd (put-never (signText (a .r) (a .count) (a .b)) (replicate 10 0) few (s .put-sign .ensures .0) (s .put-sign .ensures .1) (c .enum-told .given .1))
+    absurd (put-never (signText (a .r) (a .count) (a .b)) (replicate 10 0) few (at-put-sign .put-sign .ensures .0)
+    (at-put-sign .put-sign .ensures .1) (c .enum-told .given .1))
 
 pub write-sign-spec : {M : Type 1} → statement M
 write-sign-spec =

@@ -8,19 +8,19 @@ use borrow.Author.Needs.{needs}
 use borrow.Fn.Kinds.{In}
 use borrow.Fn.PlainCycle.{Measures, is, falls, and}
 use Rattle.figures.specs.Flat.{opens}
-use Rattle.figures.specs.Scan.{Stands}
-use Rattle.runs.proofs.Calls.{free}
+use Rattle.figures.specs.inside.Scan.{MarkAt}
+use Rattle.figures.proofs.Calls.{free}
 use Rattle.figures.proofs.Scanning.{Going, scan-starts, scan-past, scan-closes, scan-plain, scan-rest, scan-deeper, scan-enters, scan-opens, scan-passes}
 use Rattle.figures.proofs.Figures.join.Reads as join
 use Rattle.figures.proofs.Figures.nothing.Reads as nothing
 use Rattle.figures.proofs.Figures.passes.Reads as passes
 use Rattle.figures.proofs.Figures.plain.Reads as plain
 use Rattle.figures.proofs.Figures.sure_rest.Reads as sure-rest
-use Rattle.coder.proofs.cell_at.Reads as cell-at
+use Rattle.cells.proofs.decoder.cell_at.Reads as cell-at
 use Rattle.stretch.specs.declared.Role.{Role}
 use Rattle.stretch.specs.declared.Role.the-variants.{Other, SureRest, Loop, End}
-use Rattle.stretch.specs.Marks.{marked}
-use Rattle.stretch.specs.Scan.{marksTo}
+use Rattle.stretch.specs.inside.Roles.{marked}
+use Rattle.stretch.specs.Marks.{marksTo}
 use Rattle.stretch.proofs.Marking.{marks-length, stands-role}
 use Rattle.stretch.proofs.role_of.Reads as role-of
 use Rattle.stretch.proofs.body_figures.Reads as body
@@ -79,58 +79,97 @@ module _ (t : ℕ) where
   run-holds c = rw (c .nothing .ensures) (scan-starts _ _ _ (c .before .pre .1 .scannable))
 
   -- the mark that stands where the code has found a role
-  read : (c : run-lts.After-role-of (run-calls t) (run-at t) run.Post Inv-loop μ-loop) (role : Role) → c .role-of .result ≡ role
-      → Stands (marksTo (now (c .before .before .before .before .before .args .cells)) (c .before .before .before .before .before .args .end)) (c .before .before .before .loop .i) (marked role)
+  read : (c : run-lts.After-role-of (run-calls t) (run-at t) run.Post Inv-loop μ-loop) (role : Role)
+      → c .role-of .result ≡ role
+      → let at-loop = c .before .before .before in
+      let at-entry = at-loop .before .before in
+      MarkAt (marksTo (now (at-entry .args .cells)) (at-entry .args .end)) (at-loop .loop .i) (marked role)
   read c role e =
-      stands-role _ _ (c .before .before .before .before .before .pre .1 .inside) _ (c .before .before .loop-test .taken) _ _ role (c .before .cell-at .ensures) (c .role-of .ensures) e
+      let at-loop-test = c .before .before in
+      let at-entry = at-loop-test .before .before .before in
+      stands-role _ _ (at-entry .pre .1 .inside) _ (at-loop-test .loop-test .taken) _ _ role
+      (c .before .cell-at .ensures) (c .role-of .ensures) e
 
   run-again : run-lts.Need-loop-again (run-calls t) (run-at t) run.Post Inv-loop μ-loop
   run-again c =
-      let d = c .before .before .before .before in
-      rw (c .join .ensures, c .before .plain .ensures) (scan-plain _ _ _ _ _ (d .before .before .before .loop .inv) (read d Other (c .before .before .enum-told .given .1)))
+      let at-told = c .before .before in
+      let at-role-of = at-told .before .before in
+      let at-loop = at-role-of .before .before .before in
+      rw (c .join .ensures, c .before .plain .ensures)
+      (scan-plain _ _ _ _ _ (at-loop .loop .inv) (read at-role-of Other (at-told .enum-told .given .1)))
 
   run-again-2 : run-lts.Need-loop-again-2 (run-calls t) (run-at t) run.Post Inv-loop μ-loop
   run-again-2 c =
-      let d = c .before .before .before .before in
-      rw (c .join2 .ensures, c .before .sure-rest .ensures) (scan-rest _ _ _ _ _ (d .before .before .before .loop .inv) (read d SureRest (c .before .before .enum-told2 .given .1)))
+      let at-told2 = c .before .before in
+      let at-role-of = at-told2 .before .before in
+      let at-loop = at-role-of .before .before .before in
+      rw (c .join2 .ensures, c .before .sure-rest .ensures)
+      (scan-rest _ _ _ _ _ (at-loop .loop .inv) (read at-role-of SureRest (at-told2 .enum-told2 .given .1)))
 
   -- the LOOP that stands where a body is entered
   loops : (c : run-lts.After-join3 (run-calls t) (run-at t) run.Post Inv-loop μ-loop)
-      → Stands (marksTo (now (c .before .before .before .before .before .before .before .before .before .before .args .cells)) (c .before .before .before .before .before .before .before .before .before .before .args .end)) (c .before .before .before .before .before .before .before .before .loop .i) (opens (c .before .before .before .role .given .0 .0))
-  loops c = let g = c .before .before .before .role .given in read (c .before .before .before .before .before) (Loop (g .0 .0)) (g .1)
+      → let at-role = c .before .before .before in
+      let at-loop = at-role .before .before .before .before .before in
+      let at-entry = at-loop .before .before in
+      MarkAt (marksTo (now (at-entry .args .cells)) (at-entry .args .end)) (at-loop .loop .i)
+      (opens (at-role .role .given .0 .0))
+  loops c =
+      let at-role = c .before .before .before in
+      let at-role-of = at-role .before .before in
+      let g = at-role .role .given in
+      read at-role-of (Loop (g .0 .0)) (g .1)
 
   run-body : run-lts.Need-body-figures-requires (run-calls t) (run-at t) run.Post Inv-loop μ-loop
   run-body c κs =
-      let d = c .before .before .before .before .before in
-      let p = d .before .before .before .before .before .pre in
+      let at-match = c .before .before .before .before in
+      let at-loop = at-match .before .before .before .before in
+      let at-entry = at-loop .before .before in
+      let p = at-entry .pre in
       let s = loops c in (
         omega (arith, p .0),
-        record { inside = p .1 .inside; deeper = scan-deeper _ _ _ _ _ (d .before .before .before .loop .inv) _ s; scannable = scan-enters _ _ _ _ _ (d .before .before .before .loop .inv) _ s },
+        record {
+          inside = p .1 .inside;
+          deeper = scan-deeper _ _ _ _ _ (at-loop .loop .inv) _ s;
+          scannable = scan-enters _ _ _ _ _ (at-loop .loop .inv) _ s;
+        },
       )
 
   run-less-3 : run-lts.Need-loop-less-3 (run-calls t) (run-at t) run.Post Inv-loop μ-loop
   run-less-3 c =
-      let e = c .before .before .body-figures .ensures in
-      let d = c .before .before .before .before .before .before .before .before in
-      let s = d .before .before .before .before .before in
-      omega (arith, e .low, e .high, marks-length (now (s .args .cells)) (s .args .end) (s .pre .1 .inside), d .before .before .loop-test .taken)
+      let at-body-figures = c .before .before in
+      let at-role-of = at-body-figures .before .before .before .before .before .before in
+      let at-loop-test = at-role-of .before .before in
+      let at-entry = at-loop-test .before .before .before in
+      let e = at-body-figures .body-figures .ensures in
+      omega (
+        arith,
+        e .low,
+        e .high,
+        marks-length (now (at-entry .args .cells)) (at-entry .args .end)
+            (at-entry .pre .1 .inside),
+        at-loop-test .loop-test .taken,
+      )
 
   run-again-3 : run-lts.Need-loop-again-3 (run-calls t) (run-at t) run.Post Inv-loop μ-loop
   run-again-3 c =
-      let e = c .before .before .before in
-      let d = e .before .before .before .before .before in
-      rw (c .join4 .ensures, e .join3 .ensures, e .before .plain2 .ensures)
-      (scan-opens _ _ _ _ _ (d .before .before .before .loop .inv) _ (loops e) _ _ (c .before .before .body-figures .ensures))
+      let at-body-figures = c .before .before in
+      let at-join3 = at-body-figures .before in
+      let at-plain2 = at-join3 .before in
+      let at-role-of = at-plain2 .before .before .before .before in
+      let at-loop = at-role-of .before .before .before in
+      rw (c .join4 .ensures, at-join3 .join3 .ensures, at-plain2 .plain2 .ensures)
+      (scan-opens _ _ _ _ _ (at-loop .loop .inv) _ (loops at-join3) _ _ (at-body-figures .body-figures .ensures))
 
   run-returns : run-lts.Need-returns (run-calls t) (run-at t) run.Post Inv-loop μ-loop
   run-returns c =
-      let d = c .before .before in
-      scan-closes _ _ _ _ _ (d .before .before .before .loop .inv) (read d End (c .enum-told3 .given .1))
+      let at-role-of = c .before .before in
+      let at-loop = at-role-of .before .before .before in
+      scan-closes _ _ _ _ _ (at-loop .loop .inv) (read at-role-of End (c .enum-told3 .given .1))
 
   run-returns-2 : run-lts.Need-returns-2 (run-calls t) (run-at t) run.Post Inv-loop μ-loop
   run-returns-2 c =
-      let s = c .before .before .before in
-      let l = marks-length (now (s .args .cells)) (s .args .end) (s .pre .1 .inside) in
+      let at-entry = c .before .before .before in
+      let l = marks-length (now (at-entry .args .cells)) (at-entry .args .end) (at-entry .pre .1 .inside) in
       scan-past _ _ _ _ _ (c .before .loop .inv) (omega arith)
 
 pub +body-figures+run-figures-spec : {M : Type 1} → statement M

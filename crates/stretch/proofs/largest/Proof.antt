@@ -5,7 +5,7 @@ use denote.Ref.{now}
 use lib.ListN.{length}
 use borrow.Author.Needs.{needs}
 use Rattle.stretch.specs.Marks.{processesOf}
-use Rattle.stretch.specs.Measured.{measured}
+use Rattle.stretch.specs.inside.Measured.{measured}
 use Rattle.stretch.proofs.Reports.{measured-reported}
 use Rattle.stretch.proofs.largest.Statement.{statement}
 use Rattle.stretch.proofs.largest.Tie as tie
@@ -17,12 +17,16 @@ cast-measure-all : tie.Need-cast-measure-all
 cast-measure-all c = search needs
 
 measure-all-requires : tie.Need-measure-all-requires
-measure-all-requires c κs = let e : 8 ≡ length (c .before .before .before .args .heads .ends) = slice-aggregate-measure-all (c .before) in omega arith
+measure-all-requires c κs =
+    let at-entry = c .before .before .before in
+    let e : 8 ≡ length (at-entry .args .heads .ends) = slice-aggregate-measure-all (c .before) in
+    omega arith
 
 returns : tie.Need-returns
 unfolding processesOf
 returns c =
-    let a = c .before .before .before .before .args in
+    let at-entry = c .before .before .before .before in
+    let a = at-entry .args in
     let e : c .measure-all .result ≡ measured (now (a .cells)) (a .heads) = c .measure-all .ensures in
     (e, rw e (measured-reported (now (a .cells)) (a .heads)))
 

@@ -2,7 +2,7 @@
 use Prim.Native.Nat.{_-_}
 use native.Mathlib.Omega.{arith}
 use borrow.Author.Needs.{needs}
-use Rattle.runs.proofs.Calls.{free}
+use Rattle.figures.proofs.Calls.{free}
 use Rattle.stretch.proofs.Measuring.{Measuring, measuring-starts, measuring-past, measuring-on, measuring-over, measuring-strays}
 use Rattle.stretch.proofs.measure_all.Statement.{statement}
 use Rattle.stretch.proofs.measure_all.Tie as tie
@@ -18,24 +18,30 @@ loop-holds c = measuring-starts _ _ _
 
 returns : tie.Need-returns Inv-loop μ-loop
 returns c =
-    let o = c .before .before in
-    let d = o .before .before in
-    let l = d .before .before .before in
-    measuring-over _ _ _ _ _ _ _ _ (l .before .loop .inv) (l .before .before .smaller .ensures) (l .loop-test .taken) _ (d .before .place .ensures) _ (d .measure .ensures) _ (o .one .given .1) (c .if1 .taken)
+    let at-one = c .before .before in
+    let at-measure = at-one .before .before in
+    let at-loop-test = at-measure .before .before .before in
+    measuring-over _ _ _ _ _ _ _ _ (at-loop-test .before .loop .inv) (at-loop-test .before .before .smaller .ensures)
+    (at-loop-test .loop-test .taken) _ (at-measure .before .place .ensures) _ (at-measure .measure .ensures) _
+    (at-one .one .given .1) (c .if1 .taken)
 
 loop-again : tie.Need-loop-again Inv-loop μ-loop
 loop-again c =
-    let o = c .before .before .before in
-    let d = o .before .before in
-    let l = d .before .before .before in
+    let at-one = c .before .before .before in
+    let at-measure = at-one .before .before in
+    let at-loop-test = at-measure .before .before .before in
     rw (c .larger .ensures)
-    (measuring-on _ _ _ _ _ _ _ _ (l .before .loop .inv) (l .before .before .smaller .ensures) (l .loop-test .taken) _ (d .before .place .ensures) _ (d .measure .ensures) _ (o .one .given .1) (c .before .if1 .left))
+    (measuring-on _ _ _ _ _ _ _ _ (at-loop-test .before .loop .inv) (at-loop-test .before .before .smaller .ensures)
+    (at-loop-test .loop-test .taken) _ (at-measure .before .place .ensures) _ (at-measure .measure .ensures) _
+    (at-one .one .given .1) (c .before .if1 .left))
 
 returns-2 : tie.Need-returns-2 Inv-loop μ-loop
 returns-2 c =
-    let d = c .before .before in
-    let l = d .before .before .before in
-    measuring-strays _ _ _ _ _ _ _ _ (l .before .loop .inv) (l .before .before .smaller .ensures) (l .loop-test .taken) _ (d .before .place .ensures) _ (d .measure .ensures) (c .enum-told .given .1)
+    let at-measure = c .before .before in
+    let at-loop-test = at-measure .before .before .before in
+    measuring-strays _ _ _ _ _ _ _ _ (at-loop-test .before .loop .inv) (at-loop-test .before .before .smaller .ensures)
+    (at-loop-test .loop-test .taken) _ (at-measure .before .place .ensures) _ (at-measure .measure .ensures)
+    (c .enum-told .given .1)
 
 returns-3 : tie.Need-returns-3 Inv-loop μ-loop
 returns-3 c = measuring-past _ _ _ _ _ _ _ _ (c .before .loop .inv) (c .before .before .smaller .ensures) (c .loop-test .left)

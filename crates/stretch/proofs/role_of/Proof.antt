@@ -3,7 +3,7 @@ use mathlib.Core.Path.{sym, ap, _∙_}
 use borrow.Author.Needs.{needs}
 use Rattle.language.specs.Stretch.{markOf}
 use Rattle.language.specs.Table.{statementOf}
-use Rattle.runs.proofs.Calls.{free}
+use Rattle.figures.proofs.Calls.{free}
 use Rattle.stretch.specs.Marks.{cellMark}
 use Rattle.stretch.proofs.Marking.{mark-loop, mark-time, mark-byte}
 use Rattle.stretch.proofs.Others.{other-plain}
@@ -19,8 +19,8 @@ returns-2 c = search needs
 
 returns-3 : tie.Need-returns-3
 returns-3 c =
-    let w = c .before .before in
-    c .rest-above-zero .ensures ∙ sym (ap cellMark (w .c2 .given .1) ∙ mark-time (w .c2 .given .0 .0))
+    let at-c2 = c .before .before in
+    c .rest-above-zero .ensures ∙ sym (ap cellMark (at-c2 .c2 .given .1) ∙ mark-time (at-c2 .c2 .given .0 .0))
 
 returns-4 : tie.Need-returns-4
 unfolding cellMark markOf statementOf
@@ -28,8 +28,8 @@ returns-4 c = search needs
 
 returns-5 : tie.Need-returns-5
 returns-5 c =
-    let w = c .before .before in
-    c .rest-above-zero2 .ensures ∙ sym (ap cellMark (w .c3 .given .1) ∙ mark-byte (w .c3 .given .0 .0))
+    let at-c3 = c .before .before in
+    c .rest-above-zero2 .ensures ∙ sym (ap cellMark (at-c3 .c3 .given .1) ∙ mark-byte (at-c3 .c3 .given .0 .0))
 
 returns-6 : tie.Need-returns-6
 unfolding cellMark markOf statementOf

@@ -26,7 +26,10 @@ blank-requires c κs = tt
 
 returns : tie.Need-returns Inv-loop μ-loop
 unfolding afterBlanks
-returns c = sym (stopped counts-blanks (c .before .before .before .before .loop .inv) (omega arith) (c .before .blank .ensures) (not-true _ (c .if1 .taken)))
+returns c =
+    let at-loop = c .before .before .before .before in
+    sym (stopped counts-blanks (at-loop .loop .inv) (omega arith) (c .before .blank .ensures)
+    (not-true _ (c .if1 .taken)))
 
 add-i : tie.Need-add-i Inv-loop μ-loop
 add-i c = omega arith
@@ -35,7 +38,9 @@ loop-less : tie.Need-loop-less Inv-loop μ-loop
 loop-less c = omega arith
 
 loop-again : tie.Need-loop-again Inv-loop μ-loop
-loop-again c = passed counts-blanks (c .before .before .before .before .loop .inv) (omega arith) (c .before .blank .ensures) (not-false _ (c .if1 .left))
+loop-again c =
+    let at-loop = c .before .before .before .before in
+    passed counts-blanks (at-loop .loop .inv) (omega arith) (c .before .blank .ensures) (not-false _ (c .if1 .left))
 
 returns-2 : tie.Need-returns-2 Inv-loop μ-loop
 unfolding afterBlanks

@@ -26,7 +26,9 @@ shared-slice-read-if2-2 : tie.Need-shared-slice-read-if2-2 Inv-loop μ-loop
 shared-slice-read-if2-2 c = omega arith
 
 returns-2 : tie.Need-returns-2 Inv-loop μ-loop
-returns-2 c = sym (differs (c .before .before .before .before .before .loop .inv) (omega arith) (omega arith) (c .if2 .taken))
+returns-2 c =
+    let at-loop = c .before .before .before .before .before in
+    sym (differs (at-loop .loop .inv) (omega arith) (omega arith) (c .if2 .taken))
 
 add-i : tie.Need-add-i Inv-loop μ-loop
 add-i c = omega arith
@@ -35,7 +37,9 @@ loop-less : tie.Need-loop-less Inv-loop μ-loop
 loop-less c = omega arith
 
 loop-again : tie.Need-loop-again Inv-loop μ-loop
-loop-again c = alike (c .before .before .before .before .before .loop .inv) (omega arith) (omega arith) (c .if2 .left)
+loop-again c =
+    let at-loop = c .before .before .before .before .before in
+    alike (at-loop .loop .inv) (omega arith) (omega arith) (c .if2 .left)
 
 returns-3 : tie.Need-returns-3 Inv-loop μ-loop
 returns-3 c = sym (longer (c .before .before .loop .inv) (omega arith) (omega arith))

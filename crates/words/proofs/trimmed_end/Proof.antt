@@ -25,7 +25,9 @@ blank-requires : tie.Need-blank-requires Inv-loop μ-loop
 blank-requires c κs = tt
 
 returns : tie.Need-returns Inv-loop μ-loop
-returns c = sym (kept (c .before .before .before .before .loop .inv) (omega arith) (c .before .blank .ensures) (not-true _ (c .if1 .taken)))
+returns c =
+    let at-loop = c .before .before .before .before in
+    sym (kept (at-loop .loop .inv) (omega arith) (c .before .blank .ensures) (not-true _ (c .if1 .taken)))
 
 sub-end : tie.Need-sub-end Inv-loop μ-loop
 sub-end c = omega arith
@@ -34,7 +36,9 @@ loop-less : tie.Need-loop-less Inv-loop μ-loop
 loop-less c = omega arith
 
 loop-again : tie.Need-loop-again Inv-loop μ-loop
-loop-again c = trimmed (c .before .before .before .before .loop .inv) (omega arith) (c .before .blank .ensures) (not-false _ (c .if1 .left))
+loop-again c =
+    let at-loop = c .before .before .before .before in
+    trimmed (at-loop .loop .inv) (omega arith) (c .before .blank .ensures) (not-false _ (c .if1 .left))
 
 returns-2 : tie.Need-returns-2 Inv-loop μ-loop
 returns-2 c = sym (all-trimmed (c .before .loop .inv) (omega arith))

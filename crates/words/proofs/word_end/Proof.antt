@@ -25,7 +25,9 @@ blank-requires c κs = tt
 
 returns : tie.Need-returns Inv-loop μ-loop
 unfolding wordEnd
-returns c = sym (stopped counts-word (c .before .before .before .before .loop .inv) (omega arith) (c .before .blank .ensures) (c .if1 .taken))
+returns c =
+    let at-loop = c .before .before .before .before in
+    sym (stopped counts-word (at-loop .loop .inv) (omega arith) (c .before .blank .ensures) (c .if1 .taken))
 
 add-i : tie.Need-add-i Inv-loop μ-loop
 add-i c = omega arith
@@ -34,7 +36,9 @@ loop-less : tie.Need-loop-less Inv-loop μ-loop
 loop-less c = omega arith
 
 loop-again : tie.Need-loop-again Inv-loop μ-loop
-loop-again c = passed counts-word (c .before .before .before .before .loop .inv) (omega arith) (c .before .blank .ensures) (c .if1 .left)
+loop-again c =
+    let at-loop = c .before .before .before .before in
+    passed counts-word (at-loop .loop .inv) (omega arith) (c .before .blank .ensures) (c .if1 .left)
 
 returns-2 : tie.Need-returns-2 Inv-loop μ-loop
 unfolding wordEnd

@@ -19,7 +19,8 @@ abbrev μ-loop : tie.MeasureT-loop
 
 returns : tie.Need-returns Inv-loop μ-loop
 returns c =
-    let a = c .before .before .before .args in
+    let at-entry = c .before .before .before in
+    let a = at-entry .args in
     no-room (hexText (now (a .bytes))) (now (a .dst)) (a .at) (omega (arith, hex-length (now (a .bytes))))
 
 sub-if2 : tie.Need-sub-if2 Inv-loop μ-loop
@@ -27,12 +28,14 @@ sub-if2 c = omega arith
 
 returns-2 : tie.Need-returns-2 Inv-loop μ-loop
 returns-2 c =
-    let a = c .before .before .before .before .args in
+    let at-entry = c .before .before .before .before in
+    let a = at-entry .args in
     no-room (hexText (now (a .bytes))) (now (a .dst)) (a .at) (omega (arith, hex-length (now (a .bytes))))
 
 loop-holds : tie.Need-loop-holds Inv-loop μ-loop
 loop-holds c =
-    let a = c .before .before .before .before .args in
+    let at-entry = c .before .before .before .before in
+    let a = at-entry .args in
     begun (omega (arith, hex-length (now (a .bytes))))
 
 shared-slice-read-b : tie.Need-shared-slice-read-b Inv-loop μ-loop
@@ -42,19 +45,31 @@ capital-digit-requires : tie.Need-capital-digit-requires Inv-loop μ-loop
 capital-digit-requires c κs = omega (arith, c .shared-slice-known2 .given (c .before .before .loop .i))
 
 slice-write-dst : tie.Need-slice-write-dst Inv-loop μ-loop
-slice-write-dst c = omega (arith, hex-room _ _ (c .before .before .loop-test .taken) (c .before .before .before .loop .inv))
+slice-write-dst c =
+    let at-loop-test = c .before .before in
+    let at-loop = at-loop-test .before in
+    omega (arith, hex-room _ _ (at-loop-test .loop-test .taken) (at-loop .loop .inv))
 
 capital-digit-requires-2 : tie.Need-capital-digit-requires-2 Inv-loop μ-loop
 capital-digit-requires-2 c κs = omega arith
 
 add-dst : tie.Need-add-dst Inv-loop μ-loop
-add-dst c = omega (arith, hex-room _ _ (c .before .before .before .loop-test .taken) (c .before .before .before .before .loop .inv), c .before .before .before .before .loop .inv .long)
+add-dst c =
+    let at-loop-test = c .before .before .before in
+    let at-loop = at-loop-test .before in
+    omega (arith, hex-room _ _ (at-loop-test .loop-test .taken) (at-loop .loop .inv), at-loop .loop .inv .long)
 
 slice-write-dst-2 : tie.Need-slice-write-dst-2 Inv-loop μ-loop
-slice-write-dst-2 c = simp length-set (hex-room _ _ (c .before .before .before .loop-test .taken) (c .before .before .before .before .loop .inv))
+slice-write-dst-2 c =
+    let at-loop-test = c .before .before .before in
+    let at-loop = at-loop-test .before in
+    simp length-set (hex-room _ _ (at-loop-test .loop-test .taken) (at-loop .loop .inv))
 
 add-place : tie.Need-add-place Inv-loop μ-loop
-add-place c = omega (arith, hex-room _ _ (c .before .before .before .loop-test .taken) (c .before .before .before .before .loop .inv), c .before .before .before .before .loop .inv .long)
+add-place c =
+    let at-loop-test = c .before .before .before in
+    let at-loop = at-loop-test .before in
+    omega (arith, hex-room _ _ (at-loop-test .loop-test .taken) (at-loop .loop .inv), at-loop .loop .inv .long)
 
 add-i : tie.Need-add-i Inv-loop μ-loop
 add-i c = omega arith
@@ -63,7 +78,11 @@ loop-less : tie.Need-loop-less Inv-loop μ-loop
 loop-less c = omega arith
 
 loop-again : tie.Need-loop-again Inv-loop μ-loop
-loop-again c = two-stored _ _ (c .before .before .before .loop-test .taken) (c .before .capital-digit .ensures) (c .capital-digit2 .ensures) (c .before .before .before .before .loop .inv)
+loop-again c =
+    let at-loop-test = c .before .before .before in
+    let at-loop = at-loop-test .before in
+    two-stored _ _ (at-loop-test .loop-test .taken) (c .before .capital-digit .ensures) (c .capital-digit2 .ensures)
+    (at-loop .loop .inv)
 
 same-length : tie.Need-same-length Inv-loop μ-loop
 same-length c = c .before .loop .inv .long

@@ -2,14 +2,14 @@
 use Prim.Native.Nat.{ℕ, _+_, _-_}
 use mathlib.Core.Path.{sym, ap, ap₂, _∙_}
 use native.Mathlib.Omega.{arith}
-use Rattle.heads_fit.specs.Tests.{one}
-use Rattle.accepted.specs.Tests.{linesIn}
+use Rattle.accepted.specs.inside.Heads.{countIf}
+use Rattle.accepted.specs.inside.Lines.{linesIn}
 use borrow.Author.Needs.{needs}
 use Rattle.accepted.proofs.lines.lines.Statement.{statement}
 use Rattle.accepted.proofs.lines.lines.Tie as tie
 
-wide-requires : tie.Need-wide-requires
-wide-requires c κs = search needs
+wide-byte-requires : tie.Need-wide-byte-requires
+wide-byte-requires c κs = search needs
 
 sub-behind : tie.Need-sub-behind
 sub-behind c = search needs
@@ -35,15 +35,18 @@ add-result-3 c = omega arith
 returns : tie.Need-returns
 unfolding linesIn
 returns c =
-    let w = c .before .before .before in
-    let cells = ap₂ (λ (k n : ℕ). k + (n - 1)) (sym (w .before .pre .1)) (w .wide .ensures) in
-    ap₂ _+_ (c .before .before .setting-lines .ensures .0) (ap₂ _+_ (c .count .ensures .0 ∙ ap one (c .before .first-empty .ensures)) cells)
+    let at-setting-lines = c .before .before in
+    let at-wide-byte = at-setting-lines .before in
+    let cells = ap₂ (λ (k n : ℕ). k + (n - 1)) (sym (at-wide-byte .before .pre .1))
+    (at-wide-byte .wide-byte .ensures) in
+    ap₂ _+_ (at-setting-lines .setting-lines .ensures .0)
+    (ap₂ _+_ (c .count .ensures .0 ∙ ap countIf (c .before .first-empty .ensures)) cells)
 
 pub lines-spec : {M : Type 1} → statement M
 lines-spec =
     tie.close
     (tie.spec
-    wide-requires
+    wide-byte-requires
     sub-behind
     setting-lines-requires
     first-empty-requires

@@ -2,7 +2,7 @@
 use mathlib.Core.Path.{refl}
 use Rattle.figures.specs.Figures.{capped}
 use Rattle.figures.proofs.Associative.{fig-path}
-use Rattle.runs.proofs.Calls.{free}
+use Rattle.figures.proofs.Calls.{free}
 use Rattle.figures.proofs.Figures.hold.Statement.{statement}
 use Rattle.figures.proofs.Figures.hold.Tie as tie
 

@@ -6,7 +6,7 @@ use borrow.Author.Tests.{lt-ltb, le-ltb}
 use native.Mathlib.Omega.{arith}
 use denote.Ref.{now}
 use lib.ListN.{length}
-use Rattle.numbers.specs.Number.{ended, numberAt}
+use Rattle.numbers.specs.Number.{digitsEnded, numberAt}
 use Rattle.numbers.proofs.Reading.{Reading, begun, at-end, stopped, too-long, too-large, taken}
 use Rattle.numbers.proofs.decimal.number.Statement.{statement}
 use Rattle.numbers.proofs.decimal.number.Tie as tie
@@ -31,8 +31,10 @@ wide-requires c κs = tt
 
 returns : tie.Need-returns Inv-loop μ-loop
 returns c =
-    let w = c .before .before in
-    sym (too-long (w .before .before .before .before .loop .inv .1) (omega arith) (w .wide .ensures ∙ w .before .digit .ensures) (omega arith) (omega arith))
+    let at-wide = c .before .before in
+    let at-loop = at-wide .before .before .before .before in
+    sym (too-long (at-loop .loop .inv .1) (omega arith) (at-wide .wide .ensures ∙ at-wide .before .digit .ensures)
+    (omega arith) (omega arith))
 
 mul-next : tie.Need-mul-next Inv-loop μ-loop
 mul-next c = omega arith
@@ -42,8 +44,10 @@ add-next c = omega arith
 
 returns-2 : tie.Need-returns-2 Inv-loop μ-loop
 returns-2 c =
-    let w = c .before .before .before in
-    sym (too-large (w .before .before .before .before .loop .inv .1) (omega arith) (w .wide .ensures ∙ w .before .digit .ensures) (omega arith) (omega arith) (omega arith))
+    let at-wide = c .before .before .before in
+    let at-loop = at-wide .before .before .before .before in
+    sym (too-large (at-loop .loop .inv .1) (omega arith) (at-wide .wide .ensures ∙ at-wide .before .digit .ensures)
+    (omega arith) (omega arith) (omega arith))
 
 add-n : tie.Need-add-n Inv-loop μ-loop
 add-n c = omega arith
@@ -56,17 +60,22 @@ loop-less c = omega arith
 
 loop-again : tie.Need-loop-again Inv-loop μ-loop
 loop-again c =
-    let w = c .before .before .before in
-    let i = w .before .before .before .before .loop .inv in
-    (i .0, taken (i .1) (omega arith) (w .wide .ensures ∙ w .before .digit .ensures) (omega arith) (omega arith) (omega arith))
+    let at-wide = c .before .before .before in
+    let at-loop = at-wide .before .before .before .before in
+    let i = at-loop .loop .inv in (
+      i .0,
+      taken (i .1) (omega arith) (at-wide .wide .ensures ∙ at-wide .before .digit .ensures) (omega arith)
+          (omega arith) (omega arith),
+    )
 
 cast-t18 : tie.Need-cast-t18 Inv-loop μ-loop
 cast-t18 c = omega arith
 
 -- where the loop has been left, at the end of the text or at a byte that is no digit
 left : (c : tie.Left-loop Inv-loop μ-loop)
-    → numberAt (c .before .before .before .args .most) (c .before .before .before .args .limit) (now (c .before .before .before .args .s)) (c .before .before .before .args .at)
-    ≡ ended (c .before .loop .n) (c .before .loop .v) (c .before .loop .i)
+    → let at-entry = c .before .before .before in
+    numberAt (at-entry .args .most) (at-entry .args .limit) (now (at-entry .args .s)) (at-entry .args .at)
+    ≡ digitsEnded (c .before .loop .n) (c .before .loop .v) (c .before .loop .i)
 left c =
     let w = c .before .loop .inv .1 in
     ⊎-elim
@@ -75,11 +84,11 @@ left c =
     (c .loop-test .came)
 
 returns-3 : tie.Need-returns-3 Inv-loop μ-loop
-unfolding ended
+unfolding digitsEnded
 returns-3 c = sym (left (c .before) ∙ simp (lt-ltb _ _ (c .if4 .taken)))
 
 returns-4 : tie.Need-returns-4 Inv-loop μ-loop
-unfolding ended
+unfolding digitsEnded
 returns-4 c = sym (left (c .before) ∙ simp (le-ltb _ _ (c .if4 .left)))
 
 pub number-spec : {M : Type 1} → statement M

@@ -17,8 +17,9 @@ digit-requires c κs = search needs
 
 returns-2 : tie.Need-returns-2
 returns-2 c =
-    let d = c .before in
-    sym (pair-on _ _ (d .before .before .if1 .left) (d .digit .ensures) _ _ ∙ simp (le-ltb _ _ (c .if2 .taken)))
+    let at-digit = c .before in
+    sym (pair-on _ _ (at-digit .before .before .if1 .left) (at-digit .digit .ensures) _ _
+    ∙ simp (le-ltb _ _ (c .if2 .taken)))
 
 mul-if3 : tie.Need-mul-if3
 mul-if3 c = search needs
@@ -28,16 +29,19 @@ add-if3 c = search needs
 
 returns-3 : tie.Need-returns-3
 returns-3 c =
-    let d = c .before .before in
-    sym (pair-on _ _ (d .before .before .if1 .left) (d .digit .ensures) _ _ ∙ simp (lt-ltb _ _ (c .before .if2 .left), lt-leb _ _ (c .if3 .taken)))
+    let at-digit = c .before .before in
+    sym (pair-on _ _ (at-digit .before .before .if1 .left) (at-digit .digit .ensures) _ _
+    ∙ simp (lt-ltb _ _ (c .before .if2 .left), lt-leb _ _ (c .if3 .taken)))
 
 mul-if4 : tie.Need-mul-if4
 mul-if4 c = search needs
 
 returns-4 : tie.Need-returns-4
 returns-4 c =
-    let d = c .before .before .before in
-    sym (pair-on _ _ (d .before .before .if1 .left) (d .digit .ensures) _ _ ∙ simp (lt-ltb _ _ (c .before .before .if2 .left), le-leb _ _ (c .before .if3 .left), lt-leb _ _ (c .if4 .taken)))
+    let at-if2 = c .before .before in
+    let at-digit = at-if2 .before in
+    sym (pair-on _ _ (at-digit .before .before .if1 .left) (at-digit .digit .ensures) _ _
+    ∙ simp (lt-ltb _ _ (at-if2 .if2 .left), le-leb _ _ (c .before .if3 .left), lt-leb _ _ (c .if4 .taken)))
 
 add-second : tie.Need-add-second
 add-second c = search needs
@@ -47,13 +51,17 @@ second-requires c κs = search needs
 
 returns-5 : tie.Need-returns-5
 returns-5 c =
+    let at-if3 = c .before .before in
+    let at-if2 = at-if3 .before in
+    let at-digit = at-if2 .before in
+    let at-if1 = at-digit .before .before in
     c .second .ensures
     ∙ sym
     (pair-first _ _
-    (c .before .before .before .before .before .before .if1 .left)
-    (c .before .before .before .before .digit .ensures)
-    (c .before .before .before .if2 .left)
-    (c .before .before .if3 .left)
+    (at-if1 .if1 .left)
+    (at-digit .digit .ensures)
+    (at-if2 .if2 .left)
+    (at-if3 .if3 .left)
     (c .before .if4 .left))
 
 pub pair-spec : {M : Type 1} → statement M

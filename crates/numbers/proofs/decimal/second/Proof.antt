@@ -17,8 +17,9 @@ digit-requires c κs = search needs
 
 returns-2 : tie.Need-returns-2
 returns-2 c =
-    let d = c .before in
-    sym (second-on _ _ (d .before .before .if1 .left) (d .digit .ensures) _ _ _ ∙ simp (le-ltb _ _ (c .if2 .taken)))
+    let at-digit = c .before in
+    sym (second-on _ _ (at-digit .before .before .if1 .left) (at-digit .digit .ensures) _ _ _
+    ∙ simp (le-ltb _ _ (c .if2 .taken)))
 
 mul-v : tie.Need-mul-v
 mul-v c = search needs
@@ -28,13 +29,16 @@ add-v c = search needs
 
 returns-3 : tie.Need-returns-3
 returns-3 c =
-    let d = c .before .before in
-    sym (second-on _ _ (d .before .before .if1 .left) (d .digit .ensures) _ _ _ ∙ simp (lt-ltb _ _ (c .before .if2 .left), lt-leb _ _ (c .if3 .taken)))
+    let at-digit = c .before .before in
+    sym (second-on _ _ (at-digit .before .before .if1 .left) (at-digit .digit .ensures) _ _ _
+    ∙ simp (lt-ltb _ _ (c .before .if2 .left), lt-leb _ _ (c .if3 .taken)))
 
 returns-4 : tie.Need-returns-4
 returns-4 c =
-    let d = c .before .before .before in
-    sym (second-on _ _ (d .before .before .if1 .left) (d .digit .ensures) _ _ _ ∙ simp (lt-ltb _ _ (c .before .before .if2 .left), le-leb _ _ (c .before .if3 .left), lt-leb _ _ (c .if4 .taken)))
+    let at-if2 = c .before .before in
+    let at-digit = at-if2 .before in
+    sym (second-on _ _ (at-digit .before .before .if1 .left) (at-digit .digit .ensures) _ _ _
+    ∙ simp (lt-ltb _ _ (at-if2 .if2 .left), le-leb _ _ (c .before .if3 .left), lt-leb _ _ (c .if4 .taken)))
 
 cast-t12 : tie.Need-cast-t12
 cast-t12 c = search needs
@@ -44,8 +48,10 @@ add-t8 c = search needs
 
 returns-5 : tie.Need-returns-5
 returns-5 c =
-    let d = c .before .before .before in
-    sym (second-on _ _ (d .before .before .if1 .left) (d .digit .ensures) _ _ _ ∙ simp (lt-ltb _ _ (c .before .before .if2 .left), le-leb _ _ (c .before .if3 .left), le-leb _ _ (c .if4 .left)))
+    let at-if2 = c .before .before in
+    let at-digit = at-if2 .before in
+    sym (second-on _ _ (at-digit .before .before .if1 .left) (at-digit .digit .ensures) _ _ _
+    ∙ simp (lt-ltb _ _ (at-if2 .if2 .left), le-leb _ _ (c .before .if3 .left), le-leb _ _ (c .if4 .left)))
 
 pub second-spec : {M : Type 1} → statement M
 second-spec =

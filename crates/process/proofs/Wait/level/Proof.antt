@@ -18,16 +18,19 @@ awaken-requires c κs = search needs
 
 returns : tie.Need-returns
 returns c =
-    let w = c .before .before .before .before in
-    let a = w .before .before .args in
+    let at-sets-level = c .before .before in
+    let at-self = at-sets-level .before .before in
+    let a = at-self .before .before .args in
     c .awaken .ensures
-    ∙ sym (ap (levelWait (a .e) (a .place) (a .end)) (w .self .given .1) ∙ level-ends (a .place) (a .end) (a .e) _ (sym (c .before .before .sets-level .ensures) ∙ c .before .if1 .taken))
+    ∙ sym (ap (levelWait (a .e) (a .place) (a .end)) (at-self .self .given .1) ∙ level-ends (a .place) (a .end) (a .e) _
+    (sym (at-sets-level .sets-level .ensures) ∙ c .before .if1 .taken))
 
 returns-2 : tie.Need-returns-2
 returns-2 c =
-    let w = c .before .before .before in
-    let a = w .before .before .args in
-    sym (ap (levelWait (a .e) (a .place) (a .end)) (w .self .given .1) ∙ level-stays (a .place) (a .end) (a .e) _ (sym (c .before .sets-level .ensures) ∙ c .if1 .left))
+    let at-self = c .before .before .before in
+    let a = at-self .before .before .args in
+    sym (ap (levelWait (a .e) (a .place) (a .end)) (at-self .self .given .1) ∙ level-stays (a .place) (a .end) (a .e) _
+    (sym (c .before .sets-level .ensures) ∙ c .if1 .left))
 
 returns-3 : tie.Need-returns-3
 returns-3 c = let a = c .before .args in levels-past (a .place) (a .end) (a .e) (a .self) (c .match .keys2)

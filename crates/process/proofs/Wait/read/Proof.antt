@@ -18,16 +18,19 @@ awaken-requires c κs = search needs
 
 returns : tie.Need-returns
 returns c =
-    let w = c .before .before .before .before in
-    let a = w .before .before .args in
+    let at-clock-matches = c .before .before in
+    let at-self = at-clock-matches .before .before in
+    let a = at-self .before .before .args in
     c .awaken .ensures
-    ∙ sym (ap (readingWait (a .r) (a .place) (a .end)) (w .self .given .1) ∙ clock-ends (a .place) (a .end) (a .r) _ (sym (c .before .before .clock-matches .ensures) ∙ c .before .if1 .taken))
+    ∙ sym (ap (readingWait (a .r) (a .place) (a .end)) (at-self .self .given .1) ∙ clock-ends (a .place) (a .end)
+    (a .r) _ (sym (at-clock-matches .clock-matches .ensures) ∙ c .before .if1 .taken))
 
 returns-2 : tie.Need-returns-2
 returns-2 c =
-    let w = c .before .before .before in
-    let a = w .before .before .args in
-    sym (ap (readingWait (a .r) (a .place) (a .end)) (w .self .given .1) ∙ clock-stays (a .place) (a .end) (a .r) _ (sym (c .before .clock-matches .ensures) ∙ c .if1 .left))
+    let at-self = c .before .before .before in
+    let a = at-self .before .before .args in
+    sym (ap (readingWait (a .r) (a .place) (a .end)) (at-self .self .given .1) ∙ clock-stays (a .place) (a .end)
+    (a .r) _ (sym (c .before .clock-matches .ensures) ∙ c .if1 .left))
 
 returns-3 : tie.Need-returns-3
 returns-3 c = let a = c .before .args in reads-past (a .place) (a .end) (a .r) (a .self) (c .match .keys2)

@@ -16,19 +16,21 @@ awaken-requires c κs = search needs
 
 returns : tie.Need-returns
 returns c =
-    let w = c .before .before .before in
-    let a = w .before .before .args in
+    let at-self = c .before .before .before in
+    let a = at-self .before .before .args in
     c .awaken .ensures
-    ∙ sym (ap (tickedWait (a .place) (a .end)) (w .self .given .1) ∙ ticks-end (a .place) (a .end) (w .self .given .0 .0) (le-leb (w .self .given .0 .0) 1 (c .before .if1 .taken)))
+    ∙ sym (ap (tickedWait (a .place) (a .end)) (at-self .self .given .1) ∙ ticks-end (a .place) (a .end)
+    (at-self .self .given .0 .0) (le-leb (at-self .self .given .0 .0) 1 (c .before .if1 .taken)))
 
 sub-t7 : tie.Need-sub-t7
 sub-t7 c = search needs
 
 returns-2 : tie.Need-returns-2
 returns-2 c =
-    let w = c .before .before in
-    let a = w .before .before .args in
-    sym (ap (tickedWait (a .place) (a .end)) (w .self .given .1) ∙ ticks-on (a .place) (a .end) (w .self .given .0 .0) (lt-leb (w .self .given .0 .0) 1 (c .if1 .left)))
+    let at-self = c .before .before in
+    let a = at-self .before .before .args in
+    sym (ap (tickedWait (a .place) (a .end)) (at-self .self .given .1) ∙ ticks-on (a .place) (a .end)
+    (at-self .self .given .0 .0) (lt-leb (at-self .self .given .0 .0) 1 (c .if1 .left)))
 
 returns-3 : tie.Need-returns-3
 returns-3 c = let a = c .before .args in ticks-past (a .place) (a .end) (a .self) (c .match .keys2)

@@ -4,7 +4,7 @@ use Prim.Native.Nat.{_≤_, _-_}
 use native.Mathlib.Omega.{arith}
 use lib.ListN.{length, drop}
 use borrow.Author.Needs.{needs}
-use Rattle.process.specs.Events.{any}
+use Rattle.process.specs.State.{any}
 use Rattle.process.specs.Waiting.{ready}
 use Rattle.process.proofs.Loops.{any-here, any-past, any-end}
 use Rattle.process.proofs.taking.any_ready.Statement.{statement}
@@ -29,9 +29,13 @@ is-ready-requires : tie.Need-is-ready-requires Inv-loop μ-loop
 is-ready-requires c κs = search needs
 
 returns : tie.Need-returns Inv-loop μ-loop
-returns c = let a = c .before .before .before .before .before .args .t1 in
+returns c =
+    let at-loop = c .before .before .before .before in
+    let at-entry = at-loop .before in
+    let a = at-entry .args .t1 in
     let n : length a ≡ 8 = search needs in
-    sym (c .before .before .before .before .loop .inv .1 ∙ any-here ready a (c .before .before .before .before .loop .i) _ (omega arith) (sym (c .before .is-ready .ensures) ∙ c .if1 .taken))
+    sym (at-loop .loop .inv .1 ∙ any-here ready a (at-loop .loop .i) _ (omega arith) (sym (c .before .is-ready .ensures)
+    ∙ c .if1 .taken))
 
 add-i : tie.Need-add-i Inv-loop μ-loop
 add-i c = search needs
@@ -40,9 +44,15 @@ loop-less : tie.Need-loop-less Inv-loop μ-loop
 loop-less c = search needs
 
 loop-again : tie.Need-loop-again Inv-loop μ-loop
-loop-again c = let a = c .before .before .before .before .before .args .t1 in
-    let n : length a ≡ 8 = search needs in
-    (omega arith, c .before .before .before .before .loop .inv .1 ∙ any-past ready a (c .before .before .before .before .loop .i) _ (omega arith) (sym (c .before .is-ready .ensures) ∙ c .if1 .left))
+loop-again c =
+    let at-loop = c .before .before .before .before in
+    let at-entry = at-loop .before in
+    let a = at-entry .args .t1 in
+    let n : length a ≡ 8 = search needs in (
+      omega arith,
+      at-loop .loop .inv .1 ∙ any-past ready a (at-loop .loop .i) _ (omega arith)
+          (sym (c .before .is-ready .ensures) ∙ c .if1 .left),
+    )
 
 returns-2 : tie.Need-returns-2 Inv-loop μ-loop
 returns-2 c = let a = c .before .before .args .t1 in

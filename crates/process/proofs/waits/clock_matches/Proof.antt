@@ -30,10 +30,15 @@ both-requires-3 c κs = search needs
 returns : tie.Need-returns
 unfolding matches
 returns c =
-    let d = c .before .before .before in
-    let minute = c .before .before .both .ensures ∙ ap₂ _&&_ (d .before .before .unit-matches3 .ensures) (d .unit-matches4 .ensures) in
-    let hour = c .before .both2 .ensures ∙ ap₂ _&&_ (d .before .before .before .before .unit-matches2 .ensures) minute in
-    c .both3 .ensures ∙ ap₂ _&&_ (d .before .before .before .before .before .before .unit-matches .ensures) hour
+    let at-both = c .before .before in
+    let at-unit-matches4 = at-both .before in
+    let at-unit-matches3 = at-unit-matches4 .before .before in
+    let at-unit-matches2 = at-unit-matches3 .before .before in
+    let at-unit-matches = at-unit-matches2 .before .before in
+    let minute = at-both .both .ensures ∙ ap₂ _&&_ (at-unit-matches3 .unit-matches3 .ensures)
+    (at-unit-matches4 .unit-matches4 .ensures) in
+    let hour = c .before .both2 .ensures ∙ ap₂ _&&_ (at-unit-matches2 .unit-matches2 .ensures) minute in
+    c .both3 .ensures ∙ ap₂ _&&_ (at-unit-matches .unit-matches .ensures) hour
 
 pub clock-matches-spec : {M : Type 1} → statement M
 clock-matches-spec =

@@ -14,8 +14,11 @@ idle-requires c κs = search needs
 
 returns : tie.Need-returns
 returns c =
-    let a = c .before .before .before .before .before .args in
-    idle-drains (now (a .cells)) (now (a .pool)) (a .s) (now (a .counts)) (now (a .out)) (c .before .before .lowest-ready .ensures) (omega (arith, c .before .if1 .taken)) (c .idle .ensures)
+    let at-lowest-ready = c .before .before in
+    let at-entry = at-lowest-ready .before .before .before in
+    let a = at-entry .args in
+    idle-drains (now (a .cells)) (now (a .pool)) (a .s) (now (a .counts)) (now (a .out))
+    (at-lowest-ready .lowest-ready .ensures) (omega (arith, c .before .if1 .taken)) (c .idle .ensures)
 
 process-of-requires : tie.Need-process-of-requires
 process-of-requires c κs = search needs
@@ -31,13 +34,15 @@ same-length c = search needs
 
 returns-2 : tie.Need-returns-2
 returns-2 c =
-    let t = c .before .before .before .before in
-    let q = t .before .before .before .before .before in
-    let e = q .before in
-    let a = e .before .before .before .before .args in
-    turn-drains (now (a .cells)) (now (a .pool)) (a .s) (now (a .counts)) (now (a .out)) (e .before .lowest-ready .ensures) (omega (arith, e .if1 .left))
-    (q .process-of .ensures)
-    (t .take-turn .ensures)
+    let at-take-turn = c .before .before .before .before in
+    let at-process-of = at-take-turn .before .before .before .before .before in
+    let at-if1 = at-process-of .before in
+    let at-entry = at-if1 .before .before .before .before in
+    let a = at-entry .args in
+    turn-drains (now (a .cells)) (now (a .pool)) (a .s) (now (a .counts)) (now (a .out))
+    (at-if1 .before .lowest-ready .ensures) (omega (arith, at-if1 .if1 .left))
+    (at-process-of .process-of .ensures)
+    (at-take-turn .take-turn .ensures)
     (c .step-state .ensures)
 
 pub drain-spec : {M : Type 1} → statement M

@@ -1,6 +1,5 @@
 -- `runner::draining::idle` meets its contract. Assumes nothing.
 use Rattle.runner.proofs.Drains.{idle-small, idle-quiet}
-use borrow.Author.Needs.{needs}
 use Rattle.runner.proofs.draining.idle.Statement.{statement}
 use Rattle.runner.proofs.draining.idle.Tie as tie
 

@@ -29,10 +29,14 @@ is-ready-requires c κs = search needs
 
 returns : tie.Need-returns Inv-loop μ-loop
 returns c =
-    let d = c .before .before .before .before in
-    let a = d .before .args .t1 in
+    let at-loop = c .before .before .before .before in
+    let a = at-loop .before .args .t1 in
     let n : length a ≡ 8 = search needs in
-    omega (arith, d .loop .inv .1, lowest-here a (d .loop .i) _ (omega arith) (sym (c .before .is-ready .ensures) ∙ c .if1 .taken))
+    omega (
+      arith,
+      at-loop .loop .inv .1,
+      lowest-here a (at-loop .loop .i) _ (omega arith) (sym (c .before .is-ready .ensures) ∙ c .if1 .taken),
+    )
 
 add-i : tie.Need-add-i Inv-loop μ-loop
 add-i c = search needs
@@ -42,17 +46,24 @@ loop-less c = search needs
 
 loop-again : tie.Need-loop-again Inv-loop μ-loop
 loop-again c =
-    let d = c .before .before .before .before in
-    let a = d .before .args .t1 in
-    let n : length a ≡ 8 = search needs in
-    (omega arith, omega (arith, d .loop .inv .1, lowest-past a (d .loop .i) _ (omega arith) (sym (c .before .is-ready .ensures) ∙ c .if1 .left)))
+    let at-loop = c .before .before .before .before in
+    let a = at-loop .before .args .t1 in
+    let n : length a ≡ 8 = search needs in (
+      omega arith,
+      omega (
+        arith,
+        at-loop .loop .inv .1,
+        lowest-past a (at-loop .loop .i) _ (omega arith)
+            (sym (c .before .is-ready .ensures) ∙ c .if1 .left),
+      ),
+    )
 
 returns-2 : tie.Need-returns-2 Inv-loop μ-loop
 returns-2 c =
-    let d = c .before in
-    let a = d .before .args .t1 in
+    let at-loop = c .before in
+    let a = at-loop .before .args .t1 in
     let n : length a ≡ 8 = search needs in
-    omega (arith, d .loop .inv .1, lowest-end a (d .loop .i) (omega arith))
+    omega (arith, at-loop .loop .inv .1, lowest-end a (at-loop .loop .i) (omega arith))
 
 pub lowest-ready-spec : {M : Type 1} → statement M
 lowest-ready-spec =

@@ -1,4 +1,4 @@
--- `runner::draining::process_of` meets its contract: there are eight, so that it does not matter what stands behind them. Assumes nothing.
+-- `runner::draining::process_of` meets its contract: there are eight, so that it does not matter what stands after them. Assumes nothing.
 use mathlib.Core.Path.{_≡_}
 use native.Mathlib.Omega.{arith}
 use lib.ListN.{length}

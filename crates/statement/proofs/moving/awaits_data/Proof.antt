@@ -10,7 +10,9 @@ strays-requires : tie.Need-strays-requires
 strays-requires c κs = search needs
 
 returns : tie.Need-returns
-returns c = let a = c .before .before .before .args in
+returns c =
+    let at-entry = c .before .before .before in
+    let a = at-entry .args in
     c .strays .ensures ∙ data-leaves (a .p) (a .s) (a .j .cells) (a .j .bytes) (omega (arith, c .before .if1 .taken))
 
 cast-from : tie.Need-cast-from
@@ -38,15 +40,21 @@ rests-at-requires : tie.Need-rests-at-requires
 rests-at-requires c κs = search needs
 
 returns-2 : tie.Need-returns-2
-returns-2 c = let a = c .before .before .before .before .before .before .before .before .before .args in
-    c .rests-at .ensures ∙ data-fits (a .p) (a .s) (a .j .cells) (a .j .bytes) (c .before .before .before .if2 .taken)
+returns-2 c =
+    let at-if2 = c .before .before .before in
+    let at-entry = at-if2 .before .before .before .before .before .before in
+    let a = at-entry .args in
+    c .rests-at .ensures ∙ data-fits (a .p) (a .s) (a .j .cells) (a .j .bytes) (at-if2 .if2 .taken)
 
 strays-requires-2 : tie.Need-strays-requires-2
 strays-requires-2 c κs = search needs
 
 returns-3 : tie.Need-returns-3
-returns-3 c = let a = c .before .before .before .before .before .before .before .args in
-    c .strays2 .ensures ∙ data-leaves (a .p) (a .s) (a .j .cells) (a .j .bytes) (c .before .if2 .left)
+returns-3 c =
+    let at-if2 = c .before in
+    let at-entry = at-if2 .before .before .before .before .before .before in
+    let a = at-entry .args in
+    c .strays2 .ensures ∙ data-leaves (a .p) (a .s) (a .j .cells) (a .j .bytes) (at-if2 .if2 .left)
 
 pub awaits-data-spec : {M : Type 1} → statement M
 awaits-data-spec =

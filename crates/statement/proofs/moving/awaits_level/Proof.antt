@@ -16,8 +16,14 @@ passes-on-requires : tie.Need-passes-on-requires
 passes-on-requires c κs = search needs
 
 returns : tie.Need-returns
-returns c = let a = c .before .before .before .before .args in
-    c .passes-on .ensures ∙ level-holds (a .p) (a .levels) (a .l) (sym (c .before .before .same-level .ensures ∙ ap (sameLevel (a .l .on)) (c .before .before .before .level-of .ensures)) ∙ c .before .if1 .taken)
+returns c =
+    let at-same-level = c .before .before in
+    let at-level-of = at-same-level .before in
+    let at-entry = at-level-of .before in
+    let a = at-entry .args in
+    c .passes-on .ensures ∙ level-holds (a .p) (a .levels) (a .l)
+    (sym (at-same-level .same-level .ensures ∙ ap (sameLevel (a .l .on)) (at-level-of .level-of .ensures))
+    ∙ c .before .if1 .taken)
 
 add-rests-at : tie.Need-add-rests-at
 add-rests-at c = search needs
@@ -26,8 +32,15 @@ rests-at-requires : tie.Need-rests-at-requires
 rests-at-requires c κs = search needs
 
 returns-2 : tie.Need-returns-2
-returns-2 c = let a = c .before .before .before .before .before .args in
-    c .rests-at .ensures ∙ level-waits (a .p) (a .levels) (a .l) (sym (c .before .before .before .same-level .ensures ∙ ap (sameLevel (a .l .on)) (c .before .before .before .before .level-of .ensures)) ∙ c .before .before .if1 .left)
+returns-2 c =
+    let at-if1 = c .before .before in
+    let at-same-level = at-if1 .before in
+    let at-level-of = at-same-level .before in
+    let at-entry = at-level-of .before in
+    let a = at-entry .args in
+    c .rests-at .ensures ∙ level-waits (a .p) (a .levels) (a .l)
+    (sym (at-same-level .same-level .ensures ∙ ap (sameLevel (a .l .on)) (at-level-of .level-of .ensures))
+    ∙ at-if1 .if1 .left)
 
 pub awaits-level-spec : {M : Type 1} → statement M
 awaits-level-spec =

@@ -1,8 +1,7 @@
 -- `statement::moving::moves_by` meets its contract: each arm is given which variant the cell is. Assumes nothing.
 use mathlib.Core.Path.{sym, ap, ap₂, _∙_}
-use Prim.Native.Nat.{ℕ}
 use denote.Ref.{now}
-use Rattle.joining.specs.declared.Joined.{Joined}
+use Rattle.statement.specs.declared.joining.Joined.{Joined}
 use Rattle.statement.specs.Moving.{awaits, movedBy}
 use Rattle.statement.proofs.MoveCases.{other-passes}
 use borrow.Author.Needs.{needs}
@@ -84,59 +83,76 @@ passes-on-requires c κs = search needs
 returns : tie.Need-returns
 unfolding movedBy
 returns c =
-    let a = c .before .before .before .args in
+    let at-entry = c .before .before .before in
+    let a = at-entry .args in
     c .strays .ensures ∙ sym (ap (movedBy (now (a .cells)) (a .levels) (a .p)) (c .before .enum-told .given .1))
 
 returns-2 : tie.Need-returns-2
 unfolding movedBy
 returns-2 c =
-    let a = c .before .before .before .args in
+    let at-entry = c .before .before .before in
+    let a = at-entry .args in
     c .strays2 .ensures ∙ sym (ap (movedBy (now (a .cells)) (a .levels) (a .p)) (c .before .enum-told2 .given .1))
 
 returns-3 : tie.Need-returns-3
 unfolding movedBy
 returns-3 c =
-    let a = c .before .before .before .before .before .args in
-    c .opens .ensures ∙ sym (ap (movedBy (now (a .cells)) (a .levels) (a .p)) (c .before .before .before .cell .given .1))
+    let at-cell = c .before .before .before in
+    let at-entry = at-cell .before .before in
+    let a = at-entry .args in
+    c .opens .ensures ∙ sym (ap (movedBy (now (a .cells)) (a .levels) (a .p)) (at-cell .cell .given .1))
 
 returns-4 : tie.Need-returns-4
 unfolding movedBy
 returns-4 c =
-    let a = c .before .before .before .before .args in
-    c .closes .ensures ∙ sym (ap (movedBy (now (a .cells)) (a .levels) (a .p)) (c .before .before .enum-told3 .given .1))
+    let at-told3 = c .before .before in
+    let at-entry = at-told3 .before .before in
+    let a = at-entry .args in
+    c .closes .ensures ∙ sym (ap (movedBy (now (a .cells)) (a .levels) (a .p)) (at-told3 .enum-told3 .given .1))
 
 returns-5 : tie.Need-returns-5
 unfolding movedBy
 returns-5 c =
-    let a = c .before .before .before .before .args in
-    c .rests-unless .ensures ∙ sym (ap (movedBy (now (a .cells)) (a .levels) (a .p)) (c .before .before .cell2 .given .1))
+    let at-cell2 = c .before .before in
+    let at-entry = at-cell2 .before .before in
+    let a = at-entry .args in
+    c .rests-unless .ensures ∙ sym (ap (movedBy (now (a .cells)) (a .levels) (a .p)) (at-cell2 .cell2 .given .1))
 
 returns-6 : tie.Need-returns-6
 unfolding movedBy
 returns-6 c =
-    let a = c .before .before .before .before .before .args in
+    let at-cell3 = c .before .before .before in
+    let at-entry = at-cell3 .before .before in
+    let a = at-entry .args in
     let j = c .before .neighbours-in .ensures .0 in
     c .awaits-data .ensures
-    ∙ ap₂ (awaits (a .p) (c .before .before .before .cell3 .given .0 .0)) (ap (λ (j : Joined). j .cells) j) (ap (λ (j : Joined). j .bytes) j)
-    ∙ sym (ap (movedBy (now (a .cells)) (a .levels) (a .p)) (c .before .before .before .cell3 .given .1))
+    ∙ ap₂ (awaits (a .p) (at-cell3 .cell3 .given .0 .0)) (ap (λ (j : Joined). j .cells) j)
+    (ap (λ (j : Joined). j .bytes) j)
+    ∙ sym (ap (movedBy (now (a .cells)) (a .levels) (a .p)) (at-cell3 .cell3 .given .1))
 
 returns-7 : tie.Need-returns-7
 unfolding movedBy
 returns-7 c =
-    let a = c .before .before .before .before .args in
-    c .rests-unless2 .ensures ∙ sym (ap (movedBy (now (a .cells)) (a .levels) (a .p)) (c .before .before .cell4 .given .1))
+    let at-cell4 = c .before .before in
+    let at-entry = at-cell4 .before .before in
+    let a = at-entry .args in
+    c .rests-unless2 .ensures ∙ sym (ap (movedBy (now (a .cells)) (a .levels) (a .p)) (at-cell4 .cell4 .given .1))
 
 returns-8 : tie.Need-returns-8
 unfolding movedBy
 returns-8 c =
-    let a = c .before .before .before .before .before .args in
-    c .rests-at .ensures ∙ sym (ap (movedBy (now (a .cells)) (a .levels) (a .p)) (c .before .before .before .cell5 .given .1))
+    let at-cell5 = c .before .before .before in
+    let at-entry = at-cell5 .before .before in
+    let a = at-entry .args in
+    c .rests-at .ensures ∙ sym (ap (movedBy (now (a .cells)) (a .levels) (a .p)) (at-cell5 .cell5 .given .1))
 
 returns-9 : tie.Need-returns-9
 unfolding movedBy
 returns-9 c =
-    let a = c .before .before .before .before .args in
-    c .awaits-level .ensures ∙ sym (ap (movedBy (now (a .cells)) (a .levels) (a .p)) (c .before .before .cell6 .given .1))
+    let at-cell6 = c .before .before in
+    let at-entry = at-cell6 .before .before in
+    let a = at-entry .args in
+    c .awaits-level .ensures ∙ sym (ap (movedBy (now (a .cells)) (a .levels) (a .p)) (at-cell6 .cell6 .given .1))
 
 returns-10 : tie.Need-returns-10
 returns-10 c =

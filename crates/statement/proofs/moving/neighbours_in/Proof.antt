@@ -4,9 +4,9 @@ use native.Mathlib.Omega.{arith}
 use Prim.Native.Nat.{ℕ, _+_, _≤_}
 use denote.Ref.{now}
 use lib.Seq.{slice}
-use Rattle.joining.specs.declared.Joined.{Joined}
-use Rattle.joining.specs.Joining.{joinedOf}
-use Rattle.joining.proofs.Neighbours.{joined-few}
+use Rattle.statement.specs.declared.joining.Joined.{Joined}
+use Rattle.statement.specs.inside.Joined.{joinedOf}
+use Rattle.statement.proofs.Neighbours.{joined-few}
 use borrow.Author.Needs.{needs}
 use Rattle.statement.proofs.moving.neighbours_in.Statement.{statement}
 use Rattle.statement.proofs.moving.neighbours_in.Tie as tie
@@ -25,8 +25,11 @@ join-requires c κs = search needs
 
 returns : tie.Need-returns
 returns c =
-    let a = c .before .before .before .args in
-    let e = c .join .ensures ∙ ap₂ (λ (i e : ℕ). joinedOf (slice (i + 1) e (now (a .cells)))) (c .before .before .wide .ensures) (c .before .wide2 .ensures) in
+    let at-wide = c .before .before in
+    let at-entry = at-wide .before in
+    let a = at-entry .args in
+    let e = c .join .ensures ∙ ap₂ (λ (i e : ℕ). joinedOf (slice (i + 1) e (now (a .cells)))) (at-wide .wide .ensures)
+    (c .before .wide2 .ensures) in
     let k : a .p .end ≤ 65535 = search needs in
     (e, omega (arith, ap (λ (j : Joined). j .cells) e, joined-few (now (a .cells)) (a .p .place + 1) (a .p .end)))
 

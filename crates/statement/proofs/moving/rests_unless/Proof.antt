@@ -19,8 +19,11 @@ rests-at-requires : tie.Need-rests-at-requires
 rests-at-requires c κs = search needs
 
 returns-2 : tie.Need-returns-2
-returns-2 c = let a = c .before .before .before .args in
-    c .rests-at .ensures ∙ other-rests (a .p) (a .n) (a .wait) (c .before .before .if1 .left)
+returns-2 c =
+    let at-if1 = c .before .before in
+    let at-entry = at-if1 .before in
+    let a = at-entry .args in
+    c .rests-at .ensures ∙ other-rests (a .p) (a .n) (a .wait) (at-if1 .if1 .left)
 
 pub rests-unless-spec : {M : Type 1} → statement M
 rests-unless-spec =

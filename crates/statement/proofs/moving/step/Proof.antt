@@ -1,5 +1,5 @@
 -- `statement::moving::step` meets its contract. Assumes nothing.
-use mathlib.Core.Path.{sym, ap, _∙_}
+use mathlib.Core.Path.{ap, _∙_}
 use Prim.Native.Nat.{ℕ}
 use denote.Ref.{now}
 use lib.ListN.{getD}
@@ -20,17 +20,26 @@ moves-by-requires : tie.Need-moves-by-requires
 moves-by-requires c κs = search needs
 
 returns : tie.Need-returns
-returns c = let a = c .before .before .before .before .before .before .args in
+returns c =
+    let at-wide = c .before .before in
+    let at-if2 = at-wide .before in
+    let at-if1 = at-if2 .before .before in
+    let at-entry = at-if1 .before in
+    let a = at-entry .args in
     c .moves-by .ensures
-    ∙ ap (movedBy (now (a .cells)) (a .levels) (a .p)) (c .before .cell-at .ensures ∙ ap (λ (i : ℕ). decoded (getD (now (a .cells)) i 0)) (c .before .before .wide .ensures))
-    ∙ step-inside (a .p) (now (a .cells)) (a .levels) (c .before .before .before .before .before .if1 .taken) (c .before .before .before .if2 .taken)
+    ∙ ap (movedBy (now (a .cells)) (a .levels) (a .p))
+    (c .before .cell-at .ensures ∙ ap (λ (i : ℕ). decoded (getD (now (a .cells)) i 0)) (at-wide .wide .ensures))
+    ∙ step-inside (a .p) (now (a .cells)) (a .levels) (at-if1 .if1 .taken) (at-if2 .if2 .taken)
 
 strays-requires : tie.Need-strays-requires
 strays-requires c κs = search needs
 
 returns-2 : tie.Need-returns-2
-returns-2 c = let a = c .before .before .before .before .args in
-    c .strays .ensures ∙ step-over (a .p) (now (a .cells)) (a .levels) (c .before .before .before .if1 .taken) (c .before .if2 .left)
+returns-2 c =
+    let at-if1 = c .before .before .before in
+    let at-entry = at-if1 .before in
+    let a = at-entry .args in
+    c .strays .ensures ∙ step-over (a .p) (now (a .cells)) (a .levels) (at-if1 .if1 .taken) (c .before .if2 .left)
 
 strays-requires-2 : tie.Need-strays-requires-2
 strays-requires-2 c κs = search needs

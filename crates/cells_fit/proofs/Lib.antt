@@ -1,4 +1,0 @@
-pub mod Data
-pub mod Reaching
-pub mod Fitting
-pub mod Others

@@ -1,0 +1,214 @@
+-- The states of `take_lines`' two loops, and what each turn makes of them. Assumes nothing.
+use Prim.Native.Nat.{ℕ, _+_, _-_, _≤_, _<_}
+use mathlib.Core.Path.{_≡_, refl, ap, subst, _∙_}
+use mathlib.Core.Bool.{true}
+use mathlib.Core.List.{List, [], _∷_}
+use native.Mathlib.Omega.{arith}
+use lib.ListN.{length, getD, drop, replicate}
+use borrow.Author.Tests.{lt-ltb, le-leb}
+use Rattle.reader.specs.Bytes.{all}
+use Rattle.language.specs.declared.TextFault.{TextFault}
+use Rattle.language.specs.declared.TextFault.the-variants.{LineTooLong}
+use Rattle.language.specs.declared.Heads.{Heads}
+use Rattle.language.specs.Limits.{textLimit, lineLimit, linesLimit, dataLimit}
+use Rattle.language.specs.Lines.{dropCr, linesOf}
+use Rattle.language.specs.Script.{Item, does, next, default, dataOf}
+use Rattle.language.specs.Stretch.{stretchOf}
+use Rattle.language.specs.Right.{inLine}
+use Rattle.language.specs.Draft.{Result, refused, Draft, start, LineTaken, going, stop, takeLine, goOn, finished, fold, resultOf}
+use Rattle.language.specs.Table.{wordsFrom, poolOf, endsFrom, headsOf}
+use Rattle.language.specs.Answer.{answered, scriptFrom, compiled}
+use Rattle.language.specs.Listing.{bodyLines}
+use Rattle.language.proofs.Folding.{items-length}
+use Rattle.language.proofs.Cutting.{NoLf, cr-length, AllInLine}
+use Rattle.language.proofs.Sound.{Holds, line-on, start-sound}
+use Rattle.language.proofs.SoundBody.{Sound, needs-listed}
+use Rattle.compiler.specs.declared.drafting.Drafting.{Drafting}
+use Rattle.compiler.specs.declared.drafting.Step.{Step}
+use Rattle.compiler.specs.declared.drafting.Step.the-variants.{Going, Stop}
+use Rattle.compiler.specs.declared.drafting.Drafted as code
+use Rattle.compiler.specs.inside.NoLines.{noLines}
+use Rattle.compiler.specs.inside.Drafting.{scriptIn, stacked, IsDraft, Took, Ready}
+use Rattle.compiler.specs.inside.Text.{part}
+use Rattle.compiler.proofs.Texts.{part-none, part-length, no-lines, in-lines, no-lf-more, feed-ends, text-ends, begins, first-lines}
+use Rattle.compiler.proofs.Writing.{never}
+
+-- at the head of the loop over lines: the whole is the fold over the lines from `from` on, with what stands of the draft so far
+pub record Folding (s : List ℕ) (w : Drafting) (row from : ℕ) (cells pool : List ℕ) : Type 0 where
+  pub st : Draft
+  pub sound : Sound 0 st
+  pub stands : IsDraft st w cells pool
+  pub rows : row ≤ from + 1
+  pub whole : compiled s ≡ answered (fold stretchOf (linesOf (drop from s)) row st)
+
+-- at the head of the loop over a line's bytes: none up to `e` is an LF
+pub record Scanning (s : List ℕ) (w : Drafting) (row from : ℕ) (cells pool : List ℕ) (e : ℕ) : Type 0 where
+  pub folding : Folding s w row from cells pool
+  pub text : from < length s
+  pub begun : from ≤ e
+  pub upto : e ≤ length s
+  pub clean : NoLf (part s from e)
+
+-- after that loop: the line is whole, and the others come after it
+pub record Lined (s : List ℕ) (w : Drafting) (row from : ℕ) (cells pool : List ℕ) (e : ℕ) : Type 0 where
+  pub folding : Folding s w row from cells pool
+  pub begun : from ≤ e
+  pub upto : e ≤ length s
+  pub cut : linesOf (drop from s) ≡ dropCr (part s from e) ∷ linesOf (drop (e + 1) s)
+
+-- ---- before the first line
+
+nothing : IsDraft start noLines (replicate linesLimit 0) (replicate dataLimit 0)
+unfolding start default wordsFrom poolOf endsFrom headsOf stacked
+nothing =
+    record {
+      counted = refl;
+      written = refl;
+      opened = refl;
+      long = refl;
+      loops = refl;
+      begun = refl;
+      heads = refl;
+      used = refl;
+      count = refl;
+      words = refl;
+      bytes = refl;
+    }
+
+pub first : (s : List ℕ) → length s ≤ textLimit → Folding s noLines 1 0 (replicate linesLimit 0) (replicate dataLimit 0)
+unfolding compiled scriptFrom resultOf
+first s h = record { st = start; sound = start-sound; stands = nothing; rows = omega arith; whole = rw (le-leb (length s) textLimit h) }
+
+-- ---- what the code may count on
+
+-- a body has a line for each of its cells
+cells-few : (at : ℕ) (is : List Item) → length (wordsFrom at is) ≤ length is
+unfolding wordsFrom
+cells-few at [] = omega arith
+cells-few at (does s ∷ is) = omega (arith, cells-few (at + length (dataOf s)) is)
+cells-few at (next ∷ is) = omega (arith, cells-few at is)
+
+body-few : (is : List Item) → length is ≤ length (bodyLines is)
+unfolding bodyLines
+body-few [] = omega arith
+body-few (does s ∷ is) = omega (arith, items-length (does s ∷ is))
+body-few (next ∷ is) = omega (arith, items-length (next ∷ is))
+
+pub ready : {s : List ℕ} {w : Drafting} {row from : ℕ} {cells pool : List ℕ} → Folding s w row from cells pool → Ready w
+unfolding headsOf
+ready {w = w} f =
+    let st = f .st in
+    let processes : w .heads .processes ≡ length (endsFrom 0 (st .body)) = ap (λ (x : Heads). x .processes) (f .stands .heads) in
+    record {
+      room = omega (arith, f .stands .written, f .stands .counted, cells-few 0 (st .body), f .sound .lines, needs-listed (st .begun) (st .body), body-few (st .body));
+      deep = omega (arith, f .stands .opened, f .sound .deep);
+      some = omega (arith, f .stands .count, f .sound .count);
+      few = omega (arith, f .stands .count, f .sound .few);
+    }
+
+-- where a line goes on, and where it stops
+record Onward (t : LineTaken) (go : Draft → Result) (r : code.Drafted) (cells pool : List ℕ) : Type 0 where
+  st : Draft
+  sound : Sound 0 st
+  stands : IsDraft st (r .work) cells pool
+  is : goOn t go ≡ go st
+
+onward : (t : LineTaken) (go : Draft → Result) (r : code.Drafted) (cells pool : List ℕ) → Holds t → Took t r cells pool → r .step ≡ Going → Onward t go r cells pool
+unfolding goOn
+onward (going st) go r cells pool h k e = record { st = st; sound = h; stands = k .1; is = refl }
+onward (stop f n) go r cells pool h k e = absurd (never (r .step) e k)
+
+no-further : (t : LineTaken) (go : Draft → Result) (r : code.Drafted) (cells pool : List ℕ) {f : TextFault} {n : ℕ} → Took t r cells pool → r .step ≡ Stop f n
+    → goOn t go ≡ refused f n
+unfolding goOn
+no-further (going st) go r cells pool k e = absurd (never (r .step) (k .0) e)
+no-further (stop f n) go r cells pool k e = cc
+
+module _ {s : List ℕ} {w : Drafting} {row from : ℕ} {cells pool : List ℕ} where
+  -- a line is begun
+  pub opened : Folding s w row from cells pool → from < length s → Scanning s w row from cells pool from
+  opened f h = record { folding = f; text = h; begun = omega arith; upto = omega arith; clean = rw (part-none s from) }
+
+  -- no line is left
+  pub ended : (f : Folding s w row from cells pool) → length s ≤ from → compiled s ≡ answered (finished stretchOf (scriptIn (f .st)) (f .st .loops))
+  unfolding fold
+  ended f h = f .whole ∙ ap (λ (ls : List (List ℕ)). answered (fold stretchOf ls row (f .st))) (no-lines s from h)
+
+  module _ {e : ℕ} (g : Scanning s w row from cells pool e) where
+    pub passed : e < length s → (getD s e 0 ≡ 10 → ⊥) → Scanning s w row from cells pool (e + 1)
+    passed h n = record { folding = g .folding; text = g .text; begun = omega (arith, g .begun); upto = omega arith; clean = no-lf-more s from e (g .begun) h n (g .clean) }
+
+    pub at-feed : e < length s → getD s e 0 ≡ 10 → Lined s w row from cells pool e
+    at-feed h n = record { folding = g .folding; begun = g .begun; upto = g .upto; cut = feed-ends s from e (g .begun) h n (g .clean) }
+
+    pub at-end : length s ≤ e → Lined s w row from cells pool e
+    at-end h = record { folding = g .folding; begun = g .begun; upto = g .upto; cut = text-ends s from e (g .begun) h (g .upto) (g .text) (g .clean) }
+
+    -- "line over 127": so many bytes and no LF, nor one at `e`
+    pub overlong : e < length s → (getD s e 0 ≡ 10 → ⊥) → lineLimit < e - from → compiled s ≡ answered (refused LineTooLong row)
+    unfolding fold takeLine goOn
+    overlong h n k =
+        let f = g .folding in
+        let q = passed h n in
+        let b = begins s from (e + 1) (omega (arith, g .begun)) (omega (arith, g .begun)) (omega arith) (q .clean) in
+        let long : lineLimit < length (dropCr (b .first)) = omega (arith, cr-length (b .first), b .long, part-length s from (e + 1) (q .begun) (q .upto)) in
+        f .whole
+        ∙ ap (λ (ls : List (List ℕ)). answered (fold stretchOf ls row (f .st))) (first-lines s from (e + 1) (q .begun) b)
+        ∙ rw (lt-ltb lineLimit (length (dropCr (b .first))) long)
+
+  -- the line without its CR ends at `behind`
+  module _ {e : ℕ} (behind : ℕ) (g : Lined s w row from cells pool e) (bytes : (i : ℕ) → getD s i 0 < 256) (cr : dropCr (part s from e) ≡ part s from behind) where
+    lines : linesOf (drop from s) ≡ part s from behind ∷ linesOf (drop (e + 1) s)
+    lines = g .cut ∙ rw cr
+
+    pub in-line : all inLine (part s from behind) ≡ true
+    in-line = subst AllInLine lines (in-lines s from bytes) .0
+
+    line-whole : compiled s
+        ≡ answered (goOn (takeLine row (g .folding .st) (part s from behind)) (λ st₁. fold stretchOf (linesOf (drop (e + 1) s)) (row + 1) st₁))
+    unfolding fold
+    line-whole = g .folding .whole ∙ ap (λ (ls : List (List ℕ)). answered (fold stretchOf ls row (g .folding .st))) lines
+
+    -- what the code has found that it does
+    module _ (r : code.Drafted) (cells′ pool′ : List ℕ) (took : (st : Draft) → IsDraft st w cells pool → Took (takeLine row st (part s from behind)) r cells′ pool′) where
+      found : Took (takeLine row (g .folding .st) (part s from behind)) r cells′ pool′
+      found = took (g .folding .st) (g .folding .stands)
+
+      pub goes-on : r .step ≡ Going → Folding s (r .work) (row + 1) (e + 1) cells′ pool′
+      goes-on k =
+          let t : LineTaken = takeLine row (g .folding .st) (part s from behind) in
+          let o = onward t (λ st₁. fold stretchOf (linesOf (drop (e + 1) s)) (row + 1) st₁) r cells′ pool′ (line-on row (g .folding .st) (part s from behind) in-line (g .folding .sound)) found k in
+          record { st = o .st; sound = o .sound; stands = o .stands; rows = omega (arith, g .folding .rows, g .begun); whole = line-whole ∙ ap answered (o .is) }
+
+      pub refuses : {f : TextFault} {n : ℕ} → r .step ≡ Stop f n → compiled s ≡ answered (refused f n)
+      refuses k = line-whole ∙ ap answered (no-further (takeLine row (g .folding .st) (part s from behind)) _ r cells′ pool′ found k)
+
+-- ---- after the loop over the lines
+
+-- all lines are taken, and the end of the text decides
+pub record Ended (s : List ℕ) (w : Drafting) (cells pool : List ℕ) : Type 0 where
+  pub st : Draft
+  pub sound : Sound 0 st
+  pub stands : IsDraft st w cells pool
+  pub whole : compiled s ≡ answered (finished stretchOf (scriptIn st) (st .loops))
+
+-- the answer, by the step that the lines came to
+pub record Answered (s : List ℕ) (w : Drafting) (step : Step) (cells pool : List ℕ) : Type 0 where
+  pub none : step ≡ Going → Ended s w cells pool
+  pub some : (f : TextFault) (n : ℕ) → step ≡ Stop f n → compiled s ≡ answered (refused f n)
+
+pub all-taken : {s : List ℕ} {w : Drafting} {step : Step} {row from : ℕ} {cells pool cells′ pool′ : List ℕ} → Folding s w row from cells pool
+    → length s ≤ from → cells′ ≡ cells → pool′ ≡ pool → step ≡ Going → Answered s w step cells′ pool′
+all-taken {step = step} f h a b e =
+    record {
+      none = λ _. record { st = f .st; sound = f .sound; stands = rw (a, b) (f .stands); whole = ended f h };
+      some = λ x n k. absurd (never step e k);
+    }
+
+pub at-fault : {s : List ℕ} {w : Drafting} {step : Step} {cells pool : List ℕ} (f : TextFault) (n : ℕ) → step ≡ Stop f n → compiled s ≡ answered (refused f n)
+    → Answered s w step cells pool
+at-fault {step = step} f n e c =
+    record {
+      none = λ k. absurd (never step k e);
+      some = λ g m k. let z : refused f n ≡ refused g m = cc in c ∙ ap answered z;
+    }

@@ -1,0 +1,43 @@
+-- What stands where the lines go on, and the heads of a script with another body. Assumes nothing.
+use Prim.Native.Nat.{ℕ}
+use mathlib.Core.Path.{_≡_, sym, ap, subst}
+use mathlib.Core.List.{List}
+use lib.ListN.{length}
+use Rattle.language.specs.declared.Heads.{Heads}
+use Rattle.language.specs.Limits.{processLimit}
+use Rattle.language.specs.Script.{Settings, Item}
+use Rattle.language.specs.Draft.{Draft, going}
+use Rattle.language.specs.Table.{padded, poolOf, endsFrom, headsOf}
+use Rattle.compiler.specs.declared.drafting.Drafting.{Drafting}
+use Rattle.compiler.specs.declared.drafting.Step.the-variants.{Going}
+use Rattle.compiler.specs.declared.drafting.Drafted as code
+use Rattle.compiler.specs.inside.Drafting.{IsDraft, Took}
+
+-- the lines go on with this work
+abbrev pub Goes : code.Drafted → Drafting → Type 0
+Goes r w = (r .step ≡ Going) × (r .work ≡ w)
+
+pub goes : {st : Draft} {w : Drafting} {cells pool : List ℕ} {r : code.Drafted} → Goes r w → IsDraft st w cells pool → Took (going st) r cells pool
+goes {st} {w} {cells} {pool} g h = (g .0, subst (λ (x : Drafting). IsDraft st x cells pool) (sym (g .1)) h)
+
+-- ---- heads with other processes and data
+
+abbrev pub headsWith : Heads → ℕ → List ℕ → ℕ → Heads
+headsWith h processes ends used =
+    record {
+      processes = processes;
+      ends = ends;
+      used = used;
+      encodes = h .encodes;
+      encode = h .encode;
+      «two_stop_bits» = h .«two_stop_bits»;
+      omits = h .omits;
+      omit = h .omit;
+      extension = h .extension;
+    }
+
+pub heads-with : (h : Heads) (s : Settings) (a b : List Item) {processes used : ℕ} {ends : List ℕ} → h ≡ headsOf (record { settings = s; body = a })
+    → processes ≡ length (endsFrom 0 b) → ends ≡ padded processLimit (endsFrom 0 b) → used ≡ length (poolOf b)
+    → headsWith h processes ends used ≡ headsOf (record { settings = s; body = b })
+unfolding headsOf
+heads-with h s a b e p q u = rw (p, q, u) (ap (λ (x : Heads). headsWith x (length (endsFrom 0 b)) (padded processLimit (endsFrom 0 b)) (length (poolOf b))) e)

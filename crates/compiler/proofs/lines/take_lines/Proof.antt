@@ -1,0 +1,213 @@
+-- `take_lines` meets its contract: each turn of its two loops is a law on their states, `Folding` and `Scanning`. Assumes nothing.
+use Prim.Native.Nat.{ℕ, _-_, _<_}
+use mathlib.Core.Path.{_≡_, refl, sym, _∙_}
+use mathlib.Core.Logic.{⊎-elim}
+use native.Mathlib.Omega.{arith}
+use borrow.Author.Needs.{needs}
+use denote.Ref.{now}
+use lib.ListN.{length, getD}
+use Rattle.compiler.specs.declared.drafting.Step.the-variants.{Going}
+use Rattle.compiler.proofs.Folding.{Folding, Scanning, Lined, first, ready, opened, passed, at-feed, at-end, overlong, in-line, goes-on, refuses, Answered, all-taken, at-fault}
+use Rattle.compiler.proofs.lines.take_lines.Statement.{statement}
+use Rattle.compiler.proofs.lines.take_lines.Tie as tie
+
+abbrev Inv-loop : tie.InvT-loop
+Inv-loop text cells pool lent work row start end₀ end = Scanning text work row start cells pool end
+
+abbrev μ-loop : tie.MeasureT-loop
+μ-loop text cells pool lent work row start end₀ end = length text - end
+
+abbrev Inv-lines : tie.InvT-lines
+Inv-lines text cells₀ pool₀ lent₀ work₀ step₀ row₀ start₀ cells pool lent work step row start = Folding text work row start cells pool × (step ≡ Going)
+
+abbrev μ-lines : tie.MeasureT-lines
+μ-lines text cells₀ pool₀ lent₀ work₀ step₀ row₀ start₀ cells pool lent work step row start = length text - start
+
+no-lines-requires : tie.Need-no-lines-requires Inv-loop μ-loop Inv-lines μ-lines
+no-lines-requires c κs = search needs
+
+lines-holds : tie.Need-lines-holds Inv-loop μ-loop Inv-lines μ-lines
+lines-holds c = (rw (c .no-lines .ensures) (first _ (c .before .before .pre)), refl)
+
+loop-holds : tie.Need-loop-holds Inv-loop μ-loop Inv-lines μ-lines
+loop-holds c = opened (c .before .lines .inv .0) (omega arith)
+
+shared-slice-read-if1 : tie.Need-shared-slice-read-if1 Inv-loop μ-loop Inv-lines μ-lines
+shared-slice-read-if1 c = omega arith
+
+sub-if2 : tie.Need-sub-if2 Inv-loop μ-loop Inv-lines μ-lines
+sub-if2 c =
+    let at-loop = c .before .before .before in
+    omega (arith, at-loop .loop .inv .begun)
+
+add-end : tie.Need-add-end Inv-loop μ-loop Inv-lines μ-lines
+add-end c = omega arith
+
+loop-less : tie.Need-loop-less Inv-loop μ-loop Inv-lines μ-lines
+loop-less c = omega arith
+
+loop-again : tie.Need-loop-again Inv-loop μ-loop Inv-lines μ-lines
+loop-again c =
+    let at-loop = c .before .before .before .before in
+    passed (at-loop .loop .inv) (omega arith) (c .before .if1 .left)
+
+-- where the loop over the bytes has been left, at an LF or at the end of the text
+lined : (c : tie.Left-loop Inv-loop μ-loop Inv-lines μ-lines)
+    → let at-lines = c .before .before .before in
+    let at-entry = at-lines .before .before .before in
+    Lined
+    (now (at-entry .args .text))
+    (at-lines .lines .work)
+    (at-lines .lines .row)
+    (at-lines .lines .start)
+    (at-lines .lines .cells)
+    (at-lines .lines .pool)
+    (c .before .loop .end)
+lined c =
+    let g = c .before .loop .inv in
+    ⊎-elim (λ a. at-end g (a .left)) (λ a. at-feed g (a .0 .taken) (a .2 .taken)) (c .loop-test .came)
+
+-- a text is of bytes
+bytes : (c : tie.Left-loop Inv-loop μ-loop Inv-lines μ-lines) (i : ℕ)
+    → let at-entry = c .before .before .before .before .before .before in
+    getD (now (at-entry .args .text)) i 0 < 256
+bytes c i =
+    let at-read = c .before .before .before .before .before in
+    omega (arith, at-read .shared-slice-known .given i)
+
+without-cr-requires : tie.Need-without-cr-requires Inv-loop μ-loop Inv-lines μ-lines
+without-cr-requires c κs =
+    let g = lined c in
+    (g .begun, g .upto)
+
+sub-line : tie.Need-sub-line Inv-loop μ-loop Inv-lines μ-lines
+sub-line c = omega arith
+
+part-line-start : tie.Need-part-line-start Inv-loop μ-loop Inv-lines μ-lines
+part-line-start c = omega arith
+
+part-line-end : tie.Need-part-line-end Inv-loop μ-loop Inv-lines μ-lines
+part-line-end c =
+    let g = lined (c .before) in
+    omega arith
+
+take-line-requires : tie.Need-take-line-requires Inv-loop μ-loop Inv-lines μ-lines
+take-line-requires c κs =
+    let at-without-cr = c .before .before .before .before in (
+      ready (lined (at-without-cr .before) .folding),
+      in-line _ (lined (at-without-cr .before)) (bytes (at-without-cr .before)) (at-without-cr .without-cr .ensures .2),
+    )
+
+enum-told : tie.Need-enum-told Inv-loop μ-loop Inv-lines μ-lines
+enum-told c = search needs
+
+add-row : tie.Need-add-row Inv-loop μ-loop Inv-lines μ-lines
+add-row c =
+    let at-loop-test = c .before .before .before .before .before .before .before .before .before in
+    let at-entry = at-loop-test .before .before .before .before .before .before in
+    let g = lined at-loop-test in
+    omega (arith, g .folding .rows, g .begun, g .upto, at-entry .pre)
+
+add-start : tie.Need-add-start Inv-loop μ-loop Inv-lines μ-lines
+add-start c =
+    let at-loop-test = c .before .before .before .before .before .before .before .before .before in
+    let g = lined at-loop-test in
+    omega (arith, g .upto)
+
+lines-less : tie.Need-lines-less Inv-loop μ-loop Inv-lines μ-lines
+lines-less c =
+    let at-loop-test = c .before .before .before .before .before .before .before .before .before in
+    let g = lined at-loop-test in
+    omega (arith, at-loop-test .before .before .lines-test .taken, g .begun)
+
+lines-again : tie.Need-lines-again Inv-loop μ-loop Inv-lines μ-lines
+lines-again c =
+    let at-take-line = c .before .before .before in
+    let at-without-cr = at-take-line .before .before .before .before .before in
+    let e = c .before .enum-told .given .1 in (
+      goes-on _ (lined (at-without-cr .before)) (bytes (at-without-cr .before))
+          (at-without-cr .without-cr .ensures .2) _ _ _ (at-take-line .take-line .ensures) e,
+      e,
+    )
+
+enum-told-2 : tie.Need-enum-told-2 Inv-loop μ-loop Inv-lines μ-lines
+enum-told-2 c = search needs
+
+enum-told-3 : tie.Need-enum-told-3 Inv-loop μ-loop Inv-lines μ-lines
+enum-told-3 c = search needs
+
+finish-requires : tie.Need-finish-requires Inv-loop μ-loop Inv-lines μ-lines
+finish-requires c κs =
+    let at-lines = c .before .before .before .before .before in
+    ready (at-lines .lines .inv .0) .deep
+
+enum-known-step : tie.Need-enum-known-step Inv-loop μ-loop Inv-lines μ-lines
+enum-known-step c = search needs
+
+refusal-requires : tie.Need-refusal-requires Inv-loop μ-loop Inv-lines μ-lines
+refusal-requires c κs = search needs
+
+-- where the loop over the lines has been left: after the last line, inside a line that is too long, at a line's fault
+left : (c : tie.Left-lines Inv-loop μ-loop Inv-lines μ-lines)
+    → let at-entry = c .before .before .before .before in
+    Answered (now (at-entry .args .text)) (c .before .lines .work) (c .lines-test .step) (c .lines-test .cells)
+    (c .lines-test .pool)
+left c =
+    ⊎-elim
+    (λ w. all-taken (c .before .lines .inv .0) (w .0 .left) (w .1) (w .2) (w .3 ∙ c .before .lines .inv .1))
+    (λ x. ⊎-elim
+    (λ w. at-fault _ _ (w .8) (overlong (w .1 .inv) (w .2 .taken) (w .4 .left) (w .5 .taken)))
+    (λ w.
+    let l : tie.Left-loop Inv-loop μ-loop Inv-lines μ-lines =
+    record { before = record { before = record { before = c .before; lines-test = w .0 }; loop = w .1 }; loop-test = w .2 }
+    in
+    at-fault _ _ (w .13 ∙ w .10 .given .1) (refuses _ (lined l) (bytes l) (w .3 .ensures .2) _ _ _ (w .8 .ensures) (w .10 .given .1)))
+    x)
+    (c .lines-test .came)
+
+returns : tie.Need-returns Inv-loop μ-loop Inv-lines μ-lines
+returns c =
+    let at-told3 = c .before .before .before in
+    let at-lines-test = at-told3 .before .before in
+    let e = left at-lines-test .none (at-told3 .enum-told3 .given .1) in
+    c .finish .ensures (e .st) (e .sound) (e .stands) ∙ sym (e .whole)
+
+returns-2 : tie.Need-returns-2 Inv-loop μ-loop Inv-lines μ-lines
+returns-2 c =
+    let at-step = c .before .before in
+    let at-lines-test = at-step .before .before in
+    c .refusal .ensures ∙ sym (left at-lines-test .some _ _ (at-step .step .given .1))
+
+pub take-lines-spec : {M : Type 1} → statement M
+take-lines-spec =
+    tie.close
+    (tie.spec
+    Inv-loop
+    μ-loop
+    Inv-lines
+    μ-lines
+    no-lines-requires
+    lines-holds
+    loop-holds
+    shared-slice-read-if1
+    sub-if2
+    add-end
+    loop-less
+    loop-again
+    without-cr-requires
+    sub-line
+    part-line-start
+    part-line-end
+    take-line-requires
+    enum-told
+    add-row
+    add-start
+    lines-less
+    lines-again
+    enum-told-2
+    enum-told-3
+    finish-requires
+    enum-known-step
+    refusal-requires
+    returns
+    returns-2)

@@ -1,0 +1,4 @@
+-- Document 01, "Running": what each event does to the state, for every table and state there can be.
+pub mod Events
+pub mod Recording
+pub mod Receiving

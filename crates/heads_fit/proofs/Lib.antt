@@ -1,4 +1,0 @@
-pub mod Each
-pub mod Extension
-pub mod Reaching
-pub mod Setting

@@ -1,0 +1,43 @@
+-- `second_on` meets its contract: the shortest unit, with nothing after it. Assumes nothing.
+use mathlib.Core.Path.{sym, _∙_}
+use denote.Ref.{now}
+use Rattle.line_values.proofs.ClockUnits.{stops, nothing-left, something-left}
+use borrow.Author.Needs.{needs}
+use Rattle.line_values.proofs.clocks.second_on.Statement.{statement}
+use Rattle.line_values.proofs.clocks.second_on.Tie as tie
+
+unit-requires : tie.Need-unit-requires
+unit-requires c κs = search needs
+
+enum-known-second : tie.Need-enum-known-second
+enum-known-second c = search needs
+
+add-if1 : tie.Need-add-if1
+add-if1 c = search needs
+
+returns : tie.Need-returns
+returns c =
+    let at-second = c .before .before in
+    let at-unit = at-second .before .before in
+    something-left _ _ _ _ (sym (at-second .second .given .1) ∙ at-unit .unit .ensures) (c .if1 .taken)
+
+enum-told : tie.Need-enum-told
+enum-told c = search needs
+
+returns-2 : tie.Need-returns-2
+returns-2 c =
+    let at-second = c .before .before in
+    let at-unit = at-second .before .before in
+    nothing-left _ _ _ _ (sym (at-second .second .given .1) ∙ at-unit .unit .ensures) (c .if1 .left)
+
+returns-3 : tie.Need-returns-3
+returns-3 c =
+    let at-unit = c .before .before in
+    let at-entry = at-unit .before .before in
+    let a = at-entry .args in
+    stops _ _ (now (a .digits)) (a .at) _ (sym (c .enum-told .given .1) ∙ at-unit .unit .ensures)
+
+pub second-on-spec : {M : Type 1} → statement M
+second-on-spec =
+    tie.close
+    (tie.spec unit-requires enum-known-second add-if1 returns enum-told returns-2 returns-3)

@@ -1,2 +1,0 @@
--- Document 01, "Running": what a statement says.
-pub mod Saying

@@ -1,9 +1,0 @@
-pub mod Printing
-pub mod Scratch
-pub mod Texts
-pub mod Clocking
-pub mod Stating
-pub mod Lining
-pub mod Bodies
-pub mod Setting
-pub mod Fitting

@@ -1,3 +1,0 @@
-pub mod DataCases
-pub mod Overlaps
-pub mod ByteCases

@@ -1,2 +1,0 @@
--- Document 01, "Running": a received byte.
-pub mod Receiving
