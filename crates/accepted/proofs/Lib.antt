@@ -15,3 +15,4 @@ pub mod Fitting
 pub mod Others
 pub mod Held
 pub mod AllZero
+pub mod Examples

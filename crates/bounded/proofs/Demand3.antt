@@ -1,5 +1,5 @@
 -- DEMAND 3: whatever calls follow a start, the processes of an accepted script's table stay within their bounds. Assumes nothing.
-use mathlib.Core.Path.{_≡_, refl, subst}
+use mathlib.Core.Path.{_≡_, refl, ap, subst}
 use mathlib.Core.Bool.{true}
 use mathlib.Core.List.{List, [], _∷_}
 use Prim.Native.Nat.{ℕ}
@@ -14,12 +14,14 @@ use Rattle.stretch.proofs.Marking.{marks-length}
 use Rattle.process.specs.declared.Wait.{Wait}
 use Rattle.process.specs.declared.Wait.the-variants.{Ready, Over, Ticks, Bytes, Data, ClockValue, Signal}
 use Rattle.process.specs.declared.Process.{Process}
+use Rattle.process.specs.declared.RunRefusal.the-variants.{BadTable}
+use Rattle.process.specs.State.{runRefusalNumber}
 use Rattle.process.specs.Waiting.{readyWait}
 use Rattle.runner.specs.Draining.{nobody}
 use Rattle.runner.specs.Calls as calls
 use Rattle.runner.specs.Starting.{startEvent, startCounts}
-use Rattle.runner.specs.Calls.{Box, Call, startCall}
-use Rattle.bounded.specs.Replies.{Compiles}
+use Rattle.runner.specs.Calls.{Box, Call, Reply, event, outcome, startCall}
+use Rattle.bounded.specs.Replies.{Compiles, called, takenNumber, receivedNumber, outcomeNumber, replyNumber, RefusedBy}
 use Rattle.bounded.specs.Demand3.{tally, CountedRun, nextCall, afterCalls, fresh, firstOf, endOf, Safe, Bounded}
 use Rattle.bounded.proofs.Held.{resting, Held}
 use Rattle.bounded.proofs.Opens.{opens-length, bodies-nest}
@@ -37,6 +39,13 @@ only-over (Bytes n) r s = absurd (s refl)
 only-over (Data m) r s = absurd (s refl)
 only-over (ClockValue c) r s = absurd (s refl)
 only-over (Signal l) r s = absurd (s refl)
+
+-- a reply that refuses by the refusal of a table has its number
+is-25 : (y : Reply) → RefusedBy BadTable y → replyNumber y ≡ 25
+unfolding replyNumber runRefusalNumber
+is-25 (event a) e = ap takenNumber e
+is-25 (calls.received a) e = ap receivedNumber e
+is-25 (outcome o bytes) e = ap outcomeNumber e
 
 module _ (t : Table) (k : ℕ) (a : Fitting t k) where
   safe-at : (i n : ℕ) (p : Process) → Held (marksTo (t .cells) (endOf (t .heads) i)) (firstOf (t .heads) i) k n p → Safe t k i n p
@@ -72,6 +81,7 @@ module _ (t : Table) (k : ℕ) (a : Fitting t k) where
     eight = h .eight;
     safe = λ i l. safe-at i (r .done i) (getD (r .box .state .processes) i nobody) (h .every i l);
     found = λ q. call-keeps t k a (r .box) (r .done) h q .found;
+    fitting = λ q e. call-keeps t k a (r .box) (r .done) h q .found (is-25 (called t q (r .box) .reply) e);
     quiet = λ room. quiet-exactly t (r .box) (h .eight) room;
   }
 

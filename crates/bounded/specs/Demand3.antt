@@ -16,6 +16,7 @@ use Rattle.stretch.specs.Marks.{beginsAt, endsAt, marksTo}
 use Rattle.process.specs.declared.Wait.the-variants.{Over}
 use Rattle.process.specs.declared.Process.{Process}
 use Rattle.process.specs.declared.State.{State}
+use Rattle.process.specs.declared.RunRefusal.the-variants.{BadTable}
 use Rattle.process.specs.declared.Taken.{Taken}
 use Rattle.process.specs.declared.Taken.the-variants as taken
 use Rattle.process.specs.declared.Received.{Received}
@@ -25,7 +26,7 @@ use Rattle.process.specs.State.{busy}
 use Rattle.runner.specs.Draining.{lowest, nobody}
 use Rattle.runner.specs.Calls as calls
 use Rattle.runner.specs.Calls.{Box, Call, start, drain, Reply, event, outcome}
-use Rattle.bounded.specs.Replies.{called, replyNumber, did}
+use Rattle.bounded.specs.Replies.{called, replyNumber, RefusedBy, did}
 
 -- ---- the statements that each process has done since the last start or accepted event, by its number from 0
 
@@ -96,9 +97,11 @@ pub record QuietExactly (t : Table) (b : Box) (room : ℕ) : Type 0 where
   pub only : called t (drain room) b .reply ≡ outcome Quiet [] → (busy (b .state) ≡ false) × (drainLeast ≤ room)
   pub always : busy (b .state) ≡ false → drainLeast ≤ room → called t (drain room) b .reply ≡ outcome Quiet []
 
--- there are eight processes, each safe; whichever call comes next, it is not answered 25; a drain is quiet when it should be
+-- there are eight processes, each safe; whichever call comes next, it is not answered 25, neither by that number nor by the refusal that has it; a drain
+-- is quiet when it should be
 pub record Bounded (t : Table) (k : ℕ) (r : CountedRun) : Type 0 where
   pub eight : length (r .box .state .processes) ≡ processLimit
   pub safe : (i : ℕ) → i < processLimit → Safe t k i (r .done i) (getD (r .box .state .processes) i nobody)
   pub found : (q : Call) → replyNumber (called t q (r .box) .reply) ≡ 25 → ⊥
+  pub fitting : (q : Call) → RefusedBy BadTable (called t q (r .box) .reply) → ⊥
   pub quiet : (room : ℕ) → QuietExactly t (r .box) room

@@ -10,6 +10,7 @@ use Rattle.language.specs.declared.Answer.the-variants.{Accepted}
 use Rattle.language.specs.Right.{isByte}
 use Rattle.language.specs.Answer.{compiled}
 use Rattle.accepted.specs.Accepted.{tableRight}
+use Rattle.process.specs.declared.RunRefusal.{RunRefusal}
 use Rattle.process.specs.declared.Taken.{Taken}
 use Rattle.process.specs.declared.Taken.the-variants as taken
 use Rattle.process.specs.declared.Received.{Received}
@@ -58,6 +59,12 @@ unfoldable pub replyNumber : Reply → ℕ
 replyNumber (event a) = takenNumber a
 replyNumber (calls.received a) = receivedNumber a
 replyNumber (outcome o bytes) = outcomeNumber o
+
+-- "is answered 25" of the refusal itself, whatever number it has: a reply that refuses by it
+abbrev pub RefusedBy : RunRefusal → Reply → Type 0
+RefusedBy r (event a) = a ≡ taken.Refused r
+RefusedBy r (calls.received a) = a ≡ received.Refused r
+RefusedBy r (outcome o bytes) = o ≡ Refused r
 
 -- a drain did a statement
 abbrev pub did : Outcome → Bool

@@ -3,3 +3,4 @@ pub mod Text
 pub mod Needs
 pub mod NoLines
 pub mod Drafting
+pub mod Ending

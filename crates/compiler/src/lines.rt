@@ -12,6 +12,7 @@ ghost use Rattle.language.specs.Right.{inLine};
 ghost use Rattle.language.specs.Stretch.{stretchOf};
 ghost use Rattle.language.proofs.SoundBody.{Sound};
 ghost use Rattle.compiler.specs.inside.Drafting.{scriptIn, IsDraft, Took, Ready};
+ghost use Rattle.compiler.specs.inside.Ending.{Nests};
 ghost use Rattle.compiler.specs.inside.Text.{part};
 use crate::drafting::Drafted;
 use crate::drafting::Drafting;
@@ -82,9 +83,17 @@ fn without_cr(text: &[u8], start: usize, end: usize) -> usize
     end
 }
 
+// What stands in a branch that no call takes: whoever calls it has proved that.
+fn never() -> Compiled
+    requires { ⌜ ⊥ ⌝ }
+    ensures { λ r. ⌜ ⊥ ⌝ }
+{
+    refusal(TextFault::LoopLeftOpen, 0)
+}
+
 // The end of the text. "loop open at .. the end of text", "stretch over 4,096".
 fn finish(cells: &Cells, pool: &Pool, work: Drafting) -> Compiled
-    requires { ⌜ work .opened ≤ loopLimit ⌝ }
+    requires { ⌜ (work .opened ≤ loopLimit) × Nests (now cells) work ⌝ }
     ensures { λ r. ⌜ ((st : Draft) → Sound 0 st → IsDraft st work (now (cells .entry)) (now (pool .entry)) → r
         ≡ answered (finished stretchOf (scriptIn st) (st .loops))) ⌝ }
 {
@@ -106,8 +115,8 @@ fn finish(cells: &Cells, pool: &Pool, work: Drafting) -> Compiled
             Compiled { answer, table }
         }
         Measured::Over(number) => refusal(TextFault::StretchTooLong, number),
-        // The loops of every draft nest, so that this is never the answer.
-        Measured::Broken => refusal(TextFault::LoopLeftOpen, 0),
+        // The loops of every draft nest.
+        Measured::Broken => never(),
     }
 }
 

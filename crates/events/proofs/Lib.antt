@@ -3,3 +3,4 @@ pub mod Copying
 pub mod DataCases
 pub mod Overlaps
 pub mod ByteCases
+pub mod Examples

@@ -6,11 +6,12 @@ use Prim.Native.Nat.{ℕ, zero, suc, _+_, _-_, _≤_, _<_}
 use native.Mathlib.Numerals.{add-one}
 use native.Mathlib.Omega.{arith}
 use Rattle.reader.specs.Bytes.{same}
-use borrow.Author.Tests.{eq-eqb, ne-eqb}
+use borrow.Author.Tests.{eq-eqb, ne-eqb, lt-ltb, le-ltb}
 use lib.ListN.{length, getD, take, drop, length-append, length-take, length-drop, drop-of-length-le, List·getD-append}
 use lib.Seq.{take-suc, drop-cons, getD-at, getD-take, getD-drop, length-take-le}
 use Rattle.reader.proofs.Same.{is-same}
 use Rattle.process.specs.Matching.{last, longestMatch, progress, recent, advance}
+use Rattle.events.specs.inside.Matching.{advancedTo}
 
 module _ (d : List ℕ) (k b : ℕ) (fits : k < length d) where
   pub recent-length : length (recent d k b) ≡ k + 1
@@ -109,3 +110,13 @@ longest-le d xs (suc n) = go (same (take (suc n) d) (last (suc n) xs)) (longest-
 
 pub advance-le : (d : List ℕ) (k b : ℕ) → k < length d → advance d k b ≤ k + 1
 advance-le d k b h = rw (advance-from d k b h) (longest-le d (recent d k b) (k + 1))
+
+-- ---- what the code answers, where k bytes are there and where not
+
+pub advanced-in : (d : List ℕ) (k b : ℕ) → k < length d → advance d k b ≡ advancedTo d k b
+unfolding advancedTo
+advanced-in d k b h = rw (lt-ltb k (length d) h)
+
+pub advanced-out : (d : List ℕ) (k b : ℕ) → length d ≤ k → 0 ≡ advancedTo d k b
+unfolding advancedTo
+advanced-out d k b h = rw (le-ltb k (length d) h)

@@ -2,3 +2,5 @@
 pub mod Events
 pub mod Recording
 pub mod Receiving
+-- as the code goes through it: nothing in there has to be believed
+pub mod inside

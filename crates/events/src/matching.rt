@@ -4,6 +4,7 @@ ghost use Prim.Native.Nat.{_+_, _≤_, _<_};
 ghost use lib.ListN.{length, take, getD};
 ghost use Rattle.reader.specs.Bytes.{same};
 ghost use Rattle.process.specs.Matching.{last, recent, advance};
+ghost use Rattle.events.specs.inside.Matching.{advancedTo};
 
 // Byte i of the first k bytes of `want` and b.
 fn recent_at(want: &[u8], k: usize, b: u8, i: usize) -> u8
@@ -46,7 +47,7 @@ fn searched(want: &[u8], k: usize, b: u8) -> usize
 
 // The bytes matched after b, where k were matched before it; nothing where k are not there.
 pub(crate) fn advanced(want: &[u8], k: usize, b: u8) -> usize
-    ensures { λ r. ⌜ (k < length (now (want .entry)) → r ≡ advance (now (want .entry)) k b) ⌝ }
+    ensures { λ r. ⌜ r ≡ advancedTo (now (want .entry)) k b ⌝ }
 {
     if k < want.len() {
         if want[k] == b {

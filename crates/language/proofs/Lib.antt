@@ -24,3 +24,5 @@ pub mod SoundBody
 pub mod Sound
 pub mod Accepted
 pub mod Trip
+pub mod Numbers
+pub mod Words

@@ -10,3 +10,4 @@ pub mod Bodies
 pub mod Setting
 pub mod Fitting
 pub mod Plain
+pub mod Numbers

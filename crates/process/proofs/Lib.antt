@@ -1,3 +1,5 @@
 pub mod WaitCases
 pub mod Loops
 pub mod Others
+pub mod Numbers
+pub mod Examples

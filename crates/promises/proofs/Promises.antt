@@ -12,12 +12,12 @@ use Rattle.running.specs.Neighbours.{ScriptsApart, BoxesApart, NorthsApart, Qui
 use Rattle.running.proofs.Neighbours.{scripts-apart}
 use Rattle.running.proofs.Boxes.{boxes-apart, norths-apart}
 use Rattle.running.proofs.Quieted.{quiets, has-runs}
-use Rattle.promises.specs.Demand1.{AltersNothing}
+use Rattle.promises.specs.Demand1.{AltersNothing, NumbersDiffer}
 use Rattle.promises.specs.Demand2.{Faithful}
 use Rattle.promises.specs.Agrees.{Means, Whatever}
 use Rattle.promises.specs.Cases.{All, cases}
 use Rattle.promises.specs.Settled.{Shapes, Settled}
-use Rattle.promises.proofs.Refusals.{alters-nothing}
+use Rattle.promises.proofs.Refusals.{alters-nothing, numbers-differ}
 use Rattle.promises.proofs.Demand2.{demand-2}
 use Rattle.promises.proofs.Agreeing.{means, whatever}
 use Rattle.promises.proofs.Settling.{shapes, settled}
@@ -26,6 +26,10 @@ use Rattle.promises.proofs.Cases.{cases-hold}
 -- 1. Bad input is refused by a number in document 01. A refusal hands back the state it was given and leaves each lent buffer with the bytes it had.
 pub a-refusal-alters-nothing : AltersNothing
 a-refusal-alters-nothing = alters-nothing
+
+-- No two refusals have one number.
+pub no-two-refusals-have-one-number : NumbersDiffer
+no-two-refusals-have-one-number = numbers-differ
 
 -- 2. Compiling and running agree with the script reference as read in document 01: whatever the box held before and whatever calls follow a start, refused
 -- ones among them, the runner with the table of an accepted text answers them, byte for byte, as the text's script does.

@@ -27,7 +27,10 @@ use Rattle.lister.specs.declared.ListRefusal.the-variants as wrong
 use Rattle.lister.specs.declared.Listed.the-variants.{Wrote, Refused}
 use Rattle.lister.specs.Listed as tables
 use Rattle.lister.specs.Listed.{listingOf, listAnswer, listInto}
-use Rattle.promises.specs.Demand1.{RefusesText, RefusesTable, WritesAllOrNothing, AltersNothing}
+use Rattle.language.proofs.Numbers.{fault-numbers-differ}
+use Rattle.process.proofs.Numbers.{run-numbers-differ}
+use Rattle.lister.proofs.Numbers.{list-numbers-differ}
+use Rattle.promises.specs.Demand1.{RefusesText, RefusesTable, WritesAllOrNothing, AltersNothing, NumbersDiffer}
 use Rattle.promises.proofs.Demand1.{demand-1, demand-1-lent}
 
 -- ---- the compiler
@@ -111,3 +114,8 @@ writes-all-or-nothing d = record {
 
 pub alters-nothing : AltersNothing
 alters-nothing = record { writers = writes-all-or-nothing; compiler = refuses-text; lister = refuses-table; runner = demand-1; drain = demand-1-lent }
+
+-- ---- the numbers
+
+pub numbers-differ : NumbersDiffer
+numbers-differ = record { runner = run-numbers-differ; texts = fault-numbers-differ; lister = list-numbers-differ }

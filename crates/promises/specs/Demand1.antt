@@ -21,6 +21,8 @@ use Rattle.lister.specs.declared.Listed.the-variants as listed
 use Rattle.lister.specs.Listed as tables
 use Rattle.lister.specs.Listed.{listAnswer, listInto}
 use Rattle.process.specs.declared.Reading.{Reading}
+use Rattle.process.specs.declared.RunRefusal.{RunRefusal}
+use Rattle.process.specs.State.{runRefusalNumber}
 use Rattle.record.specs.Logging.{recordAnswer, recordInto}
 use Rattle.runner.specs.Draining.{drained, bufferAfter}
 use Rattle.runner.specs.Calls.{Box, Call}
@@ -61,3 +63,9 @@ pub record AltersNothing : Type 0 where
   pub lister : (t : Table) (out : List ℕ) → RefusesTable t out
   pub runner : (t : Table) (b : Box) (q : Call) → Refuses t b q
   pub drain : (t : Table) (b : Box) (out : List ℕ) → Spares t b out
+
+-- "Numbers the bench reads back": no two refusals of the runner, no two faults of a text and no two refusals of the lister have one number
+pub record NumbersDiffer : Type 0 where
+  pub runner : (r s : RunRefusal) → runRefusalNumber r ≡ runRefusalNumber s → r ≡ s
+  pub texts : (f g : TextFault) → texts.faultNumber f ≡ texts.faultNumber g → f ≡ g
+  pub lister : (v w : refusals.ListRefusal) → tables.listRefusalNumber v ≡ tables.listRefusalNumber w → v ≡ w

@@ -1,3 +1,4 @@
 pub mod Signs
 pub mod Putting
 pub mod Cutting
+pub mod Examples

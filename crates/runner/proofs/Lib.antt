@@ -3,3 +3,4 @@ pub mod Drains
 pub mod Started
 pub mod Written
 pub mod Turning
+pub mod Examples

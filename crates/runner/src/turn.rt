@@ -52,6 +52,14 @@ fn send(pool: &Pool, s: Span, out: &mut [u8]) -> usize
     count
 }
 
+// What stands in a branch that no call takes: whoever calls it has proved that.
+fn never() -> usize
+    requires { ⌜ ⊥ ⌝ }
+    ensures { λ n. ⌜ ⊥ ⌝ }
+{
+    0
+}
+
 // Records a LOG text: how many bytes the record has.
 fn log(pool: &Pool, s: Span, r: Reading, count: u32, out: &mut [u8]) -> usize
     requires { ⌜ (s .from + s .count ≤ poolPlaces) × (recordLimit ≤ length (now out)) ⌝ }
@@ -64,7 +72,8 @@ fn log(pool: &Pool, s: Span, r: Reading, count: u32, out: &mut [u8]) -> usize
     let put = write_record(&bytes[from..end], r, count, out);
     match put {
         Put::Next(n) => n,
-        Put::NoRoom => 0,
+        // The buffer has 128 bytes, and no record more than 127.
+        Put::NoRoom => never(),
     }
 }
 

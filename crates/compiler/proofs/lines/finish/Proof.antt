@@ -1,7 +1,7 @@
 -- `finish` meets its contract: each way on is a law of `Ending`. Assumes nothing.
 use mathlib.Core.Path.{sym, _∙_}
 use borrow.Author.Needs.{needs}
-use Rattle.compiler.proofs.Ending.{open-end, largest-end, over-end, never-broken}
+use Rattle.compiler.proofs.Ending.{open-end, largest-end, over-end}
 use Rattle.compiler.proofs.lines.finish.Statement.{statement}
 use Rattle.compiler.proofs.lines.finish.Tie as tie
 
@@ -38,8 +38,12 @@ refusal-requires-2 c κs = search needs
 enum-told : tie.Need-enum-told
 enum-told c = search needs
 
-refusal-requires-3 : tie.Need-refusal-requires-3
-refusal-requires-3 c κs = search needs
+never-requires : tie.Need-never-requires
+never-requires c κs =
+    let at-largest = c .before .before in
+    let at-if1 = at-largest .before .before in
+    let at-entry = at-if1 .before .before in
+    at-entry .pre .1 (at-if1 .if1 .left) (sym (at-largest .largest .ensures .0) ∙ c .enum-told .given .1)
 
 returns-2 : tie.Need-returns-2
 returns-2 c =
@@ -58,11 +62,7 @@ returns-3 c =
     ∙ at-number .number .given .1)
 
 returns-4 : tie.Need-returns-4
-returns-4 c =
-    let at-largest = c .before .before .before in
-    let at-if1 = at-largest .before .before in
-    λ st i h. never-broken i h (at-if1 .if1 .left) (sym (at-largest .largest .ensures .0)
-    ∙ c .before .enum-told .given .1)
+returns-4 c = absurd (c .never .ensures)
 
 pub finish-spec : {M : Type 1} → statement M
 finish-spec =
@@ -79,7 +79,7 @@ finish-spec =
     enum-known-number
     refusal-requires-2
     enum-told
-    refusal-requires-3
+    never-requires
     returns-2
     returns-3
     returns-4)

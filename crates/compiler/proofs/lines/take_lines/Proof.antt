@@ -8,6 +8,7 @@ use denote.Ref.{now}
 use lib.ListN.{length, getD}
 use Rattle.compiler.specs.declared.drafting.Step.the-variants.{Going}
 use Rattle.compiler.proofs.Folding.{Folding, Scanning, Lined, first, ready, opened, passed, at-feed, at-end, overlong, in-line, goes-on, refuses, Answered, all-taken, at-fault}
+use Rattle.compiler.proofs.Ending.{never-broken}
 use Rattle.compiler.proofs.lines.take_lines.Statement.{statement}
 use Rattle.compiler.proofs.lines.take_lines.Tie as tie
 
@@ -136,11 +137,6 @@ enum-told-2 c = search needs
 enum-told-3 : tie.Need-enum-told-3 Inv-loop μ-loop Inv-lines μ-lines
 enum-told-3 c = search needs
 
-finish-requires : tie.Need-finish-requires Inv-loop μ-loop Inv-lines μ-lines
-finish-requires c κs =
-    let at-lines = c .before .before .before .before .before in
-    ready (at-lines .lines .inv .0) .deep
-
 enum-known-step : tie.Need-enum-known-step Inv-loop μ-loop Inv-lines μ-lines
 enum-known-step c = search needs
 
@@ -164,6 +160,13 @@ left c =
     at-fault _ _ (w .13 ∙ w .10 .given .1) (refuses _ (lined l) (bytes l) (w .3 .ensures .2) _ _ _ (w .8 .ensures) (w .10 .given .1)))
     x)
     (c .lines-test .came)
+
+finish-requires : tie.Need-finish-requires Inv-loop μ-loop Inv-lines μ-lines
+finish-requires c κs =
+    let at-told3 = c .before .before in
+    let at-lines-test = at-told3 .before .before in
+    let e = left at-lines-test .none (at-told3 .enum-told3 .given .1) in
+    (ready (at-lines-test .before .lines .inv .0) .deep, λ none k. never-broken (e .sound) (e .stands) none k)
 
 returns : tie.Need-returns Inv-loop μ-loop Inv-lines μ-lines
 returns c =

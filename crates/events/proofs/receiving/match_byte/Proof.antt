@@ -1,10 +1,10 @@
 -- `events::receiving::match_byte` meets its contract. Assumes nothing.
-use Rattle.events.proofs.Overlaps.{advance-le}
+use Rattle.events.proofs.Overlaps.{advance-le, advanced-in}
 use Rattle.process.specs.Waiting.{matchedWait}
 use Rattle.process.specs.Matching.{advance}
 use mathlib.Core.List.{List}
 use Prim.Native.Nat.{ℕ, _<_}
-use mathlib.Core.Path.{ap, ap₂, _∙_}
+use mathlib.Core.Path.{sym, ap, ap₂, _∙_}
 use native.Mathlib.Omega.{arith}
 use denote.Ref.{now}
 use lib.ListN.{length}
@@ -34,7 +34,9 @@ matched-requires c κs =
     ) in
     omega (
       arith,
-      c .advanced .ensures l,
+      c .advanced .ensures,
+      advanced-in (now (at-awaited-data .awaited-data .result)) (c .before .wide .result)
+          (at-awaited-data .before .args .b) l,
       advance-le (now (at-awaited-data .awaited-data .result)) (c .before .wide .result)
           (at-awaited-data .before .args .b) l,
       within-data m (at-awaited-data .before .pre),
@@ -55,7 +57,8 @@ returns c =
     ) in
     c .matched .ensures
     ∙ ap (matchedWait (at-awaited-data .before .args .place) (at-awaited-data .before .args .end) m)
-    (c .before .advanced .ensures l
+    (c .before .advanced .ensures
+    ∙ sym (advanced-in _ _ _ l)
     ∙ ap₂ (λ (d : List ℕ) (k : ℕ). advance d k (at-awaited-data .before .args .b))
     (at-awaited-data .awaited-data .ensures .0) (at-wide .wide .ensures))
 

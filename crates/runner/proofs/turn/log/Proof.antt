@@ -32,6 +32,17 @@ enum-known-put c = search needs
 enum-told : tie.Need-enum-told
 enum-told c = search needs
 
+never-requires : tie.Need-never-requires
+never-requires c κs =
+    let at-write-record = c .before .before .before .before in
+    let at-wide2 = at-write-record .before .before .before in
+    let at-entry = at-wide2 .before .before .before .before in
+    let a = at-entry .args in
+    logged-never (now (a .pool)) (now (a .out)) (a .s) (at-wide2 .before .wide .ensures) (at-wide2 .wide2 .ensures)
+    (a .r) (a .count) (at-entry .pre .1)
+    (at-write-record .write-record .ensures .0)
+    (c .enum-told .given .1)
+
 same-length : tie.Need-same-length
 same-length c = search needs
 
@@ -51,16 +62,7 @@ same-length-2 : tie.Need-same-length-2
 same-length-2 c = search needs
 
 returns-2 : tie.Need-returns-2
-returns-2 c =
-    let at-write-record = c .before .before .before .before in
-    let at-wide2 = at-write-record .before .before .before in
-    let at-entry = at-wide2 .before .before .before .before in
-    let a = at-entry .args in
-    absurd
-    (logged-never (now (a .pool)) (now (a .out)) (a .s) (at-wide2 .before .wide .ensures) (at-wide2 .wide2 .ensures)
-    (a .r) (a .count) (at-entry .pre .1)
-    (at-write-record .write-record .ensures .0)
-    (c .enum-told .given .1))
+returns-2 c = absurd (c .never .ensures)
 
 pub log-spec : {M : Type 1} → statement M
 log-spec =
@@ -75,6 +77,7 @@ log-spec =
     write-record-requires
     enum-known-put
     enum-told
+    never-requires
     same-length
     returns
     same-length-2
