@@ -4,6 +4,13 @@
 //   benchmark tick SCRIPT N       the same with ticks
 //   benchmark drain SCRIPT N      starts the script and does N thousand drains, with a tick whenever it is quiet
 use compiler::compile;
+use console::arguments::Asks;
+use console::arguments::asked;
+use console::parts::first;
+use console::reading::read_file;
+use console::saying::say;
+use console::saying::say_number;
+use console::saying::tell;
 use events::receiving::receive;
 use events::tick;
 use language::Answer;
@@ -14,6 +21,7 @@ use language::Heads;
 use language::Pool;
 use language::TEXT;
 use language::Table;
+use libc::STDERR_FILENO;
 use libc::STDOUT_FILENO;
 use numbers::Number;
 use numbers::decimal::number;
@@ -206,11 +214,11 @@ fn started(what: &[u8], table: Table, count: u64) -> u64 {
     run(what, &pool, heads, drained, count)
 }
 
-fn on_text(what: &[u8], text: &[u8], count: u64) -> u64 {
+fn on_text(what: &[u8], text: &[u8; ROOM], n: usize, count: u64) -> u64 {
     if is_named(what, 0, what.len(), b"compile") {
-        return compile_often(text, count);
+        return compile_often(first(text, n), count);
     }
-    let compiled = compile(text);
+    let compiled = compile(first(text, n));
     started(what, compiled.table, count)
 }
 
@@ -231,22 +239,56 @@ fn times() -> u64 {
     thousands(&text[..n])
 }
 
-fn open_script() -> i32 {
-    let mut path = io::buffer();
-    let n = os::arg(2, &mut path);
-    os::open_read(&path[..n])
+fn usage(to: i32) {
+    tell(to, b"usage: benchmark compile|byte|tick|drain SCRIPT N\n")
+        && tell(
+            to,
+            b"Compiles the script N thousand times, or starts it and has it take N thousand\n",
+        )
+        && tell(
+            to,
+            b"bytes, ticks or drains, and prints what came of it: `tools/benchmark` times it.\n",
+        );
 }
 
-fn on_script(what: &[u8]) -> u64 {
+fn is_known(what: &[u8]) -> bool {
+    let n = what.len();
+    is_named(what, 0, n, b"compile")
+        || is_named(what, 0, n, b"byte")
+        || is_named(what, 0, n, b"tick")
+        || is_named(what, 0, n, b"drain")
+}
+
+fn on_script(what: &[u8], count: u64) {
+    let mut path = io::buffer();
     let mut text = [0u8; ROOM];
-    let n = io::read_full(open_script(), &mut text);
-    on_text(what, &text[..n], times())
+    let n = os::arg(2, &mut path);
+    let whole = read_file(&path[..n], &mut text);
+    if whole.is_read {
+        say_number(on_text(what, &text, whole.n, count)) && say(b"\n");
+    }
+}
+
+fn is_whole(what: &[u8], words: usize, count: u64) -> bool {
+    words == 4 && 0 < count && is_known(what)
+}
+
+fn on_words(words: usize) {
+    let mut what = io::buffer();
+    let n = os::arg(1, &mut what);
+    let count = times();
+    if is_whole(&what[..n], words, count) {
+        on_script(&what[..n], count);
+    } else {
+        usage(STDERR_FILENO);
+    }
 }
 
 fn main() {
-    let mut what = io::buffer();
-    let n = os::arg(1, &mut what);
-    let result = on_script(&what[..n]);
-    io::print_decimal(STDOUT_FILENO, result);
-    io::write_all(STDOUT_FILENO, b"\n");
+    let asks = asked(1);
+    match asks {
+        Asks::Help => usage(STDOUT_FILENO),
+        Asks::Mistaken => usage(STDERR_FILENO),
+        Asks::Words(words) => on_words(words),
+    }
 }

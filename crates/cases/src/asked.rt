@@ -1,7 +1,7 @@
 // What a line asks of a reader or a writer: the text that it has in brackets, and the numbers after that.
 use super::lines::part;
-use super::lines::place_of;
 use super::widths::wide;
+use console::parts::place_of;
 use numbers::Number;
 use numbers::decimal::number;
 use reader::bytes::digit;

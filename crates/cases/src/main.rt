@@ -8,12 +8,20 @@ mod texts;
 mod widths;
 mod writers;
 
+use console::arguments::Asks;
+use console::arguments::asked;
+use console::parts::first;
+use console::parts::place_of;
+use console::reading::read_whole;
+use console::saying::tell;
+use libc::STDERR_FILENO;
+use libc::STDIN_FILENO;
+use libc::STDOUT_FILENO;
 use lines::part;
-use lines::place_of;
 use lines::starts;
 use output::say;
 
-// Of a longer input the last cases would be missing in what is printed.
+// Of a longer input the last cases would be missing in what is printed: it is not taken.
 const INPUT: usize = 16384;
 
 // A reader or a writer called: the line and what came back.
@@ -57,8 +65,43 @@ fn all_cases(input: &[u8]) {
     }
 }
 
-fn main() {
+fn usage(to: i32) {
+    tell(to, b"usage: cases < CASES\n")
+        && tell(
+            to,
+            b"Calls the readers and writers, or compiles a text, as each line of the input asks,\n",
+        )
+        && tell(to, b"and prints the line with what came back.\n");
+}
+
+fn take(input: &[u8; INPUT], n: usize) {
+    if n < INPUT {
+        all_cases(first(input, n));
+    } else {
+        tell(
+            STDERR_FILENO,
+            b"standard input: over 16383 bytes are not taken\n",
+        );
+    }
+}
+
+fn on_words(words: usize) {
+    if 1 < words {
+        usage(STDERR_FILENO);
+        return;
+    }
     let mut input = [0u8; INPUT];
-    let n = io::read_full(0, &mut input);
-    all_cases(&input[..n]);
+    let whole = read_whole(STDIN_FILENO, b"standard input", &mut input);
+    if whole.is_read {
+        take(&input, whole.n);
+    }
+}
+
+fn main() {
+    let asks = asked(1);
+    match asks {
+        Asks::Help => usage(STDOUT_FILENO),
+        Asks::Mistaken => usage(STDERR_FILENO),
+        Asks::Words(words) => on_words(words),
+    }
 }

@@ -1,6 +1,5 @@
 // A text compiled: its stretch and the parts of the table that tell one short script from another, or the refusal.
 use super::lines::part;
-use super::lines::place_of;
 use super::output::say;
 use super::output::tell;
 use super::spelling::ROOM;
@@ -10,6 +9,7 @@ use super::widths::wide_byte;
 use super::widths::wide_short;
 use compiler::compile;
 use compiler::faults::number;
+use console::parts::place_of;
 use language::Answer;
 use language::Heads;
 use language::Table;

@@ -1,72 +1,89 @@
 // Runs the script of a file on operations, one a line, and prints one outcome line for each.
 //   replay SCRIPT < OPERATIONS
-//   replay --check NAME ..    holds NAME.script against NAME.listing, and its run on NAME.operations against NAME.outcomes
+//   replay --check NAME ..    holds whole cases against their files
 use compiler::compile;
+use console::arguments::Asks;
+use console::arguments::asked;
+use console::arguments::is_word;
+use console::parts::first;
+use console::reading::read_file;
+use console::saying::say;
+use console::saying::tell;
 use language::Answer;
 use language::TEXT;
-use words::is_named;
+use libc::STDERR_FILENO;
+use libc::STDOUT_FILENO;
 
 mod checking;
-mod lines;
+mod differences;
 mod operations;
 mod outcomes;
-mod output;
+mod putting;
 mod running;
-
-use output::say;
+mod tally;
+mod telling;
 
 // One byte more than a text may have is enough to know that it is too long.
-const ROOM: usize = TEXT + 1;
+pub(crate) const ROOM: usize = TEXT + 1;
 
-// The script of a file: what to do with its table.
-fn with_script(script: i32, name: &[u8], is_check: bool) {
-    let mut text = [0u8; ROOM];
-    let n = io::read_full(script, &mut text);
-    let compiled = compile(&text[..n]);
+fn usage(to: i32) {
+    tell(to, b"usage: replay SCRIPT < OPERATIONS\n")
+        && tell(to, b"       replay --check NAME ..\n")
+        && tell(
+            to,
+            b"Runs the script of a file on operations, one a line, and prints an outcome for each; or holds\n",
+        )
+        && tell(
+            to,
+            b"NAME.script against NAME.listing, and its run on NAME.operations against NAME.outcomes.\n",
+        );
+}
+
+// Runs a script on the operations of standard input.
+fn run_text(text: &[u8; ROOM], n: usize) {
+    let compiled = compile(first(text, n));
     let answer = compiled.answer;
     match answer {
-        Answer::Accepted(_) => {
-            if is_check {
-                checking::check_table(name, compiled.table);
-            } else {
-                running::started(compiled.table, 0, -1);
-            }
+        Answer::Accepted(_) => running::print_run(compiled.table),
+        Answer::Refused(fault, line) => {
+            let mut said = [0u8; putting::SHORT];
+            let at = putting::refusal(&mut said, 0, fault, line);
+            let end = putting::word(&mut said, at, b"\n");
+            say(first(&said, end));
         }
-        Answer::Refused(fault, line) => output::say_refusal(fault, line),
     }
 }
 
-fn check_named(i: usize) {
+fn run_named() {
     let mut name = io::buffer();
-    let n = os::arg(i, &mut name);
-    say(&name[..n]);
-    say(b": ");
-    with_script(
-        checking::open_file(&name[..n], b".script"),
-        &name[..n],
-        true,
-    );
+    let n = os::arg(1, &mut name);
+    let mut text = [0u8; ROOM];
+    let whole = read_file(&name[..n], &mut text);
+    if whole.is_read {
+        run_text(&text, whole.n);
+    }
 }
 
-fn check_all(count: usize) {
-    let mut i = 2usize;
-    while i < count {
-        check_named(i);
-        i += 1;
+// A NAME at least for `--check`, and else one SCRIPT.
+fn on_words(is_check: bool, count: usize) {
+    if is_check {
+        if 2 < count {
+            tally::check_all(count);
+            return;
+        }
+    } else if count == 2 {
+        run_named();
+        return;
     }
+    usage(STDERR_FILENO);
 }
 
 fn main() {
-    let mut name = io::buffer();
-    let n = os::arg(1, &mut name);
-    if is_named(&name, 0, n, b"--check") {
-        check_all(os::arg_count());
-        return;
+    let is_check = is_word(1, b"--check");
+    let asks = asked(if is_check { 2 } else { 1 });
+    match asks {
+        Asks::Help => usage(STDOUT_FILENO),
+        Asks::Mistaken => usage(STDERR_FILENO),
+        Asks::Words(count) => on_words(is_check, count),
     }
-    let script = os::open_read(&name[..n]);
-    if script < 0 {
-        os::fail(&name[..n]);
-        return;
-    }
-    with_script(script, &name[..n], false);
 }

@@ -1,7 +1,10 @@
 // An operation, read from a line: `drain SIZE`, `byte HH`, `tick`, `clock YY MM DD hh mm ss`, `level SIGNAL on|off`.
-use super::lines;
-use super::lines::Line;
-use super::output::first;
+use console::lines::BLOCK;
+use console::lines::Held;
+use console::lines::Line;
+use console::lines::next_line;
+use console::parts::first;
+use console::parts::rest_from;
 use hex::hex_byte;
 use numbers::Number;
 use numbers::decimal::number;
@@ -21,7 +24,16 @@ pub enum Operation {
     Clock(Reading),
     Level(u8, bool),
     Bad,
+    // A blank line or a comment: nothing is asked.
+    Passed,
     End,
+    Unread,
+}
+
+// An operation, and what is held of the input after it.
+pub struct Asked {
+    pub held: Held,
+    pub operation: Operation,
 }
 
 // The largest place there is.
@@ -132,20 +144,69 @@ fn by_name(line: &[u8]) -> Operation {
     Operation::Bad
 }
 
+// Whether no operation follows.
 pub(crate) fn is_end(asked: Operation) -> bool {
     match asked {
         Operation::End => true,
+        Operation::Unread => true,
         _ => false,
     }
 }
 
-// The operation of the next line; blanks at its end are ignored.
-pub(crate) fn next_operation(from: i32) -> Operation {
-    let mut line = [0u8; lines::LONGEST];
-    let next = lines::next_line(from, &mut line);
-    match next {
-        Line::Of(n) => by_name(first(&line, trimmed_end(first(&line, n)))),
-        Line::TooLong => Operation::Bad,
+pub(crate) fn is_unread(asked: Operation) -> bool {
+    match asked {
+        Operation::Unread => true,
+        _ => false,
+    }
+}
+
+pub(crate) fn is_passed(asked: Operation) -> bool {
+    match asked {
+        Operation::Passed => true,
+        _ => false,
+    }
+}
+
+fn is_comment(line: &[u8]) -> bool {
+    if 0 < line.len() {
+        return line[0] == b';';
+    }
+    false
+}
+
+// Blanks at a line's end are ignored.
+fn in_line(line: &[u8]) -> Operation {
+    if is_comment(line) {
+        return Operation::Passed;
+    }
+    let n = trimmed_end(line);
+    if n == 0 {
+        return Operation::Passed;
+    }
+    by_name(first(line, n))
+}
+
+fn in_block(block: &[u8; BLOCK], line: Line, from: usize, to: usize) -> Operation {
+    match line {
+        Line::Of => in_line(rest_from(first(block, to), from)),
         Line::End => Operation::End,
+        Line::Unread => Operation::Unread,
+        _ => Operation::Bad,
+    }
+}
+
+// The operation of the next line.
+pub(crate) fn next_operation(
+    input: i32,
+    name: &[u8],
+    block: &mut [u8; BLOCK],
+    before: Held,
+) -> Asked {
+    let next = next_line(input, name, block, before);
+    let held = next.held;
+    let line = next.line;
+    Asked {
+        held,
+        operation: in_block(block, line, next.from, next.to),
     }
 }

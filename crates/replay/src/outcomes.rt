@@ -1,27 +1,18 @@
 // The line that tells an outcome, written into a lent buffer.
-use super::output::first;
-use super::output::rest_from;
+use super::putting::place_after;
+use super::putting::word;
+use console::parts::first;
+use console::parts::rest_from;
 use process::Received;
 use process::RunRefusal;
 use process::Taken;
 use statement::outcome::Outcome;
 use words::trimmed_end;
-use writer::Put;
-use writer::put_bytes;
 use writer::put_decimal;
 use writer::put_hex;
 
-fn after(put: Put, at: usize) -> usize {
-    match put {
-        Put::Next(end) => end,
-        Put::NoRoom => at,
-    }
-}
-
-pub(crate) fn word(text: &mut [u8], at: usize, name: &[u8]) -> usize {
-    let put = put_bytes(text, at, name);
-    after(put, at)
-}
+// The longest line that is written: an outcome of 127 bytes has 254 digits.
+pub(crate) const LONGEST: usize = 512;
 
 // What is said of an operation: the place of its name in all the names, a refusal's number, and how many bytes.
 pub struct Said {
@@ -113,11 +104,11 @@ pub(crate) fn write(text: &mut [u8], said: Said, bytes: &[u8]) -> usize {
     let next = word(text, at, b" ");
     if 0 < said.number {
         let put = put_decimal(text, next, byte_number(said.number));
-        return after(put, at);
+        return place_after(put, at);
     }
     if 0 < said.count {
         let put = put_hex(text, next, first(bytes, said.count));
-        return after(put, at);
+        return place_after(put, at);
     }
     at
 }

@@ -1,13 +1,17 @@
 // A run: an operation at a time, and its outcome told or held against a file's.
 ghost use Prim.Native.Nat.{_≤_};
-use super::lines;
-use super::lines::Line;
 use super::operations;
 use super::operations::Operation;
 use super::outcomes;
+use super::outcomes::LONGEST;
 use super::outcomes::Said;
-use super::output::first;
-use super::output::say;
+use super::telling;
+use super::telling::Course;
+use super::telling::Telling;
+use console::lines::BLOCK;
+use console::lines::Held;
+use console::lines::nothing;
+use console::parts::first;
 use events::read_clock;
 use events::receiving::receive;
 use events::set_level;
@@ -17,14 +21,13 @@ use language::Cells;
 use language::Heads;
 use language::Pool;
 use language::Table;
+use libc::STDIN_FILENO;
 use process::Event;
 use process::State;
-use reader::widths::both;
 use runner::draining::drain;
 use runner::starting::Counts;
 use runner::starting::idle;
 use runner::starting::start;
-use words::is_named;
 
 // The bytes that a drain is lent at most, whatever SIZE says.
 const LENT: usize = 1024;
@@ -113,63 +116,77 @@ fn operate<'a>(
     }
 }
 
-fn say_line(text: &[u8]) {
-    say(text);
-    say(b"\n");
+// Takes what is said of an operation.
+fn take(
+    t: Telling,
+    page: &mut [u8; BLOCK],
+    name: &[u8],
+    said: Said,
+    bytes: &[u8; LENT],
+    text: &mut [u8; LONGEST],
+) -> Telling {
+    let n = outcomes::write(text, said, bytes);
+    telling::tell(t, page, name, first(text, n))
 }
 
-fn say_differs(text: &[u8]) {
-    say(b"a run says ");
-    say_line(text);
+// The state and what is told after an operation.
+struct After {
+    state: State,
+    telling: Telling,
 }
 
-// Holds an outcome against the next line of a file.
-fn is_expected(text: &[u8], expected: i32) -> bool {
-    let mut line = [0u8; lines::LONGEST];
-    let next = lines::next_line(expected, &mut line);
-    let Line::Of(n) = next else {
-        return false;
-    };
-    if is_named(&line, 0, n, text) {
-        return true;
+fn is_going(now: After) -> bool {
+    let t = now.telling;
+    let course = t.course;
+    telling::is_going(course)
+}
+
+// Nothing waits on the page while the program waits for input.
+fn before_reading(now: After, page: &[u8; BLOCK], held: Held) -> After {
+    if held.at < held.end {
+        return now;
     }
-    say_differs(text);
-    false
-}
-
-// Prints an outcome, or holds it against a file: false where they differ.
-fn tell(text: &[u8], expected: i32) -> bool {
-    if expected < 0 {
-        say_line(text);
-        return true;
+    let state = now.state;
+    let t = now.telling;
+    After {
+        state,
+        telling: telling::flushed(t, page),
     }
-    is_expected(text, expected)
 }
 
-// Says what is said of an operation: whether it was that of a file.
-fn say_outcome(said: Said, bytes: &[u8; LENT], expected: i32) -> bool {
-    let mut text = [0u8; lines::LONGEST];
-    let n = outcomes::write(&mut text, said, bytes);
-    tell(first(&text, n), expected)
-}
-
-// How many outcomes were told, and whether each was that of a file and the file had no more.
-pub struct Run {
-    pub told: u64,
-    pub agrees: bool,
-}
-
-// Whether a file of outcomes has no further line.
-fn is_through(expected: i32) -> bool {
-    if expected < 0 {
-        return true;
+// The end of the operations, or a read of them that failed.
+fn at_end(now: After, page: &mut [u8; BLOCK], name: &[u8], is_unread: bool) -> Telling {
+    let t = now.telling;
+    if is_unread {
+        return telling::stopped(telling::flushed(t, page), Course::Failed);
     }
-    let mut line = [0u8; lines::LONGEST];
-    let next = lines::next_line(expected, &mut line);
-    match next {
-        Line::Of(_) => false,
-        Line::TooLong => false,
-        Line::End => true,
+    telling::finished(t, page, name)
+}
+
+// Does an operation and takes its outcome; `name` is that of the file of outcomes.
+fn turn<'a>(
+    cells: &'a Cells,
+    pool: &'a Pool,
+    heads: Heads,
+    now: After,
+    counts: &mut Counts,
+    asked: Operation,
+    bytes: &mut [u8; LENT],
+    page: &mut [u8; BLOCK],
+    name: &[u8],
+    text: &mut [u8; LONGEST],
+) -> After {
+    if operations::is_passed(asked) {
+        return now;
+    }
+    let before = now.state;
+    let t = now.telling;
+    let done = operate(cells, pool, heads, before, counts, asked, bytes);
+    let state = done.state;
+    let said = done.said;
+    After {
+        state,
+        telling: take(t, page, name, said, bytes, text),
     }
 }
 
@@ -177,40 +194,92 @@ fn run_all<'a>(
     cells: &'a Cells,
     pool: &'a Pool,
     heads: Heads,
-    s: State,
+    begun: After,
     counts: &mut Counts,
-    from: i32,
-    expected: i32,
-) -> Run {
+    input: i32,
+    input_name: &[u8],
+    page: &mut [u8; BLOCK],
+    name: &[u8],
+    text: &mut [u8; LONGEST],
+) -> Telling {
+    let mut block = [0u8; BLOCK];
     let mut bytes = [0u8; LENT];
-    let mut state = s;
-    let mut told = 0u64;
-    let mut agrees = true;
-    while told < u64::MAX {
-        let asked = operations::next_operation(from);
-        if operations::is_end(asked) {
+    let mut held = nothing();
+    let mut now = begun;
+    let mut turns = 0u64;
+    while turns < u64::MAX {
+        turns += 1;
+        now = before_reading(now, page, held);
+        if !is_going(now) {
             break;
         }
-        let done = operate(cells, pool, heads, state, counts, asked, &mut bytes);
-        let next = done.state;
-        state = next;
-        let said = done.said;
-        agrees = both(agrees, say_outcome(said, &bytes, expected));
-        told += 1;
+        let next = operations::next_operation(input, input_name, &mut block, held);
+        let left = next.held;
+        held = left;
+        let asked = next.operation;
+        if operations::is_end(asked) {
+            return at_end(now, page, name, operations::is_unread(asked));
+        }
+        now = turn(
+            cells,
+            pool,
+            heads,
+            now,
+            counts,
+            asked,
+            &mut bytes,
+            page,
+            name,
+            text,
+        );
     }
-    Run {
-        told,
-        agrees: both(agrees, is_through(expected)),
-    }
+    let told = now.telling;
+    told
 }
 
-// Starts the script of a table and takes the operations of a file; an `expected` under 0 has the outcomes printed.
-pub(crate) fn started(table: Table, from: i32, expected: i32) -> Run {
+// Starts the script of a table and takes the operations of an input.
+pub(crate) fn started(
+    table: Table,
+    input: i32,
+    input_name: &[u8],
+    telling: Telling,
+    page: &mut [u8; BLOCK],
+    name: &[u8],
+    text: &mut [u8; LONGEST],
+) -> Telling {
     let cells = table.cells;
     let pool = table.pool;
     let heads = table.heads;
     let mut counts = [0u32; CELL_PLACES];
     let e = start(&cells, &pool, heads, idle(), &mut counts);
     let state = e.state;
-    run_all(&cells, &pool, heads, state, &mut counts, from, expected)
+    let now = After { state, telling };
+    run_all(
+        &cells,
+        &pool,
+        heads,
+        now,
+        &mut counts,
+        input,
+        input_name,
+        page,
+        name,
+        text,
+    )
+}
+
+// Prints the outcomes of a run on standard input.
+pub(crate) fn print_run(table: Table) {
+    let mut page = [0u8; BLOCK];
+    let mut text = [0u8; LONGEST];
+    let printed = telling::begun(-1);
+    started(
+        table,
+        STDIN_FILENO,
+        b"standard input",
+        printed,
+        &mut page,
+        b"",
+        &mut text,
+    );
 }

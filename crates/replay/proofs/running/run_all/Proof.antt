@@ -1,4 +1,4 @@
--- `replay::running::run_all` ends: what is left to count falls. Assumes nothing.
+-- `replay::running::run_all` ends: the turns left to count fall. Assumes nothing.
 use Prim.Native.Nat.{_-_}
 use native.Mathlib.Omega.{arith}
 use borrow.Author.Needs.{needs}
@@ -6,15 +6,27 @@ use Rattle.replay.proofs.running.run_all.Statement.{statement}
 use Rattle.replay.proofs.running.run_all.Tie as tie
 
 abbrev Inv-loop : tie.InvT-loop
-Inv-loop cells pool heads counts₀ from expected bytes₀ state₀ told₀ agrees₀ counts bytes state told agrees =
+Inv-loop cells pool heads counts₀ input input-name page₀ name text₀ block₀ bytes₀ held₀ now₀ turns₀ counts page text block bytes held now turns =
     Unit {0}
 
 abbrev μ-loop : tie.MeasureT-loop
-μ-loop cells pool heads counts₀ from expected bytes₀ state₀ told₀ agrees₀ counts bytes state told agrees =
-    18446744073709551615 - told
+μ-loop cells pool heads counts₀ input input-name page₀ name text₀ block₀ bytes₀ held₀ now₀ turns₀ counts page text block bytes held now turns =
+    18446744073709551615 - turns
+
+nothing-requires : tie.Need-nothing-requires Inv-loop μ-loop
+nothing-requires c κs = search needs
 
 loop-holds : tie.Need-loop-holds Inv-loop μ-loop
 loop-holds c = search needs
+
+add-turns : tie.Need-add-turns Inv-loop μ-loop
+add-turns c = search needs
+
+before-reading-requires : tie.Need-before-reading-requires Inv-loop μ-loop
+before-reading-requires c κs = search needs
+
+is-going-requires : tie.Need-is-going-requires Inv-loop μ-loop
+is-going-requires c κs = search needs
 
 next-operation-requires : tie.Need-next-operation-requires Inv-loop μ-loop
 next-operation-requires c κs = search needs
@@ -22,32 +34,29 @@ next-operation-requires c κs = search needs
 is-end-requires : tie.Need-is-end-requires Inv-loop μ-loop
 is-end-requires c κs = search needs
 
-operate-requires : tie.Need-operate-requires Inv-loop μ-loop
-operate-requires c κs = search needs
+is-unread-requires : tie.Need-is-unread-requires Inv-loop μ-loop
+is-unread-requires c κs = search needs
 
-say-outcome-requires : tie.Need-say-outcome-requires Inv-loop μ-loop
-say-outcome-requires c κs = search needs
+at-end-requires : tie.Need-at-end-requires Inv-loop μ-loop
+at-end-requires c κs = search needs
 
-both-requires : tie.Need-both-requires Inv-loop μ-loop
-both-requires c κs = search needs
+returns : tie.Need-returns Inv-loop μ-loop
+returns c = search needs
 
-add-told : tie.Need-add-told Inv-loop μ-loop
-add-told c = search needs
+turn-requires : tie.Need-turn-requires Inv-loop μ-loop
+turn-requires c κs = search needs
 
 loop-less : tie.Need-loop-less Inv-loop μ-loop
-loop-less c = omega arith
+loop-less c =
+    let asked = c .before .before .before .before .before in
+    let in-loop = asked .before .before .before .before .before .before .before .before .before in
+    omega (arith, in-loop .loop-test .taken)
 
 loop-again : tie.Need-loop-again Inv-loop μ-loop
 loop-again c = search needs
 
-is-through-requires : tie.Need-is-through-requires Inv-loop μ-loop
-is-through-requires c κs = search needs
-
-both-requires-2 : tie.Need-both-requires-2 Inv-loop μ-loop
-both-requires-2 c κs = search needs
-
-returns : tie.Need-returns Inv-loop μ-loop
-returns c = search needs
+returns-2 : tie.Need-returns-2 Inv-loop μ-loop
+returns-2 c = search needs
 
 pub run-all-spec : {M : Type 1} → statement M
 run-all-spec =
@@ -55,15 +64,17 @@ run-all-spec =
     (tie.spec
     Inv-loop
     μ-loop
+    nothing-requires
     loop-holds
+    add-turns
+    before-reading-requires
+    is-going-requires
     next-operation-requires
     is-end-requires
-    operate-requires
-    say-outcome-requires
-    both-requires
-    add-told
+    is-unread-requires
+    at-end-requires
+    returns
+    turn-requires
     loop-less
     loop-again
-    is-through-requires
-    both-requires-2
-    returns)
+    returns-2)
