@@ -30,7 +30,9 @@ loop-less : tie.Need-loop-less Inv-loop μ-loop
 loop-less c = omega arith
 
 loop-again : tie.Need-loop-again Inv-loop μ-loop
-loop-again c = (search needs, search needs, below-more _ _ (c .before .before .before .loop .inv .2) (λ _. c .if1 .left))
+loop-again c =
+    let at-loop = c .before .before .before in
+    (search needs, search needs, below-more _ _ (at-loop .loop .inv .2) (λ _. c .if1 .left))
 
 returns-2 : tie.Need-returns-2 Inv-loop μ-loop
 returns-2 c = search needs

@@ -19,7 +19,9 @@ searched-requires : tie.Need-searched-requires
 searched-requires c κs = search needs
 
 returns-2 : tie.Need-returns-2
-returns-2 c = c .searched .ensures ∙ advanced-in _ _ _ (c .before .before .before .if1 .taken)
+returns-2 c =
+    let at-if1 = c .before .before .before in
+    c .searched .ensures ∙ advanced-in _ _ _ (at-if1 .if1 .taken)
 
 returns-3 : tie.Need-returns-3
 returns-3 c = advanced-out _ _ _ (c .if1 .left)
