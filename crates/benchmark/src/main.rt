@@ -4,7 +4,7 @@
 //   benchmark tick SCRIPT N       the same with ticks
 //   benchmark drain SCRIPT N      starts the script and does N thousand drains, with a tick whenever it is quiet
 use compiler::compile;
-use console::arguments::Asks;
+use console::arguments::Given;
 use console::arguments::asked;
 use console::parts::first;
 use console::reading::read_file;
@@ -285,10 +285,10 @@ fn on_words(words: usize) {
 }
 
 fn main() {
-    let asks = asked(1);
-    match asks {
-        Asks::Help => usage(STDOUT_FILENO),
-        Asks::Mistaken => usage(STDERR_FILENO),
-        Asks::Words(words) => on_words(words),
+    let given = asked(1);
+    match given {
+        Given::Help => usage(STDOUT_FILENO),
+        Given::Mistaken => usage(STDERR_FILENO),
+        Given::Words(words) => on_words(words),
     }
 }

@@ -1,6 +1,6 @@
 // What a line asks of a reader or a writer: the text that it has in brackets, and the numbers after that.
 use super::lines::part;
-use super::widths::wide;
+use super::widths::wide_word;
 use console::parts::place_of;
 use numbers::Number;
 use numbers::decimal::number;
@@ -51,7 +51,7 @@ pub(crate) fn number_from(line: &[u8], from: usize) -> Asked {
     let read = number(line, at, 10, u32::MAX);
     match read {
         Number::Value(n, _) => Asked {
-            value: wide(n),
+            value: wide_word(n),
             next,
         },
         Number::Bad(_) => Asked { value: FAR, next },

@@ -8,7 +8,7 @@ mod texts;
 mod widths;
 mod writers;
 
-use console::arguments::Asks;
+use console::arguments::Given;
 use console::arguments::asked;
 use console::parts::first;
 use console::parts::place_of;
@@ -98,10 +98,10 @@ fn on_words(words: usize) {
 }
 
 fn main() {
-    let asks = asked(1);
-    match asks {
-        Asks::Help => usage(STDOUT_FILENO),
-        Asks::Mistaken => usage(STDERR_FILENO),
-        Asks::Words(words) => on_words(words),
+    let given = asked(1);
+    match given {
+        Given::Help => usage(STDOUT_FILENO),
+        Given::Mistaken => usage(STDERR_FILENO),
+        Given::Words(words) => on_words(words),
     }
 }

@@ -7,13 +7,13 @@ use super::output::shows;
 use super::output::tell;
 use super::widths::narrow;
 use super::widths::small;
-use super::widths::wide;
-use super::widths::wide_byte;
+use super::widths::wide_word;
 use hex::HexCount;
 use hex::HexRead;
 use numbers::Number;
 use numbers::decimal;
 use reader::bytes;
+use reader::widths::wide_byte;
 
 fn byte(b: u8) {
     tell(b": digit ", wide_byte(bytes::digit(b)));
@@ -77,7 +77,7 @@ fn number(line: &[u8], text: &[u8], at: usize, b: usize, c: usize) -> Number {
 fn answer(n: Number) {
     match n {
         Number::Value(v, next) => {
-            tell(b": ", wide(v));
+            tell(b": ", wide_word(v));
             tell(b", next ", next);
         }
         Number::Bad(at) => tell(b": bad at ", at),

@@ -4,28 +4,28 @@ use super::output::say;
 use super::output::tell;
 use super::spelling::ROOM;
 use super::spelling::spell;
-use super::widths::wide;
-use super::widths::wide_byte;
-use super::widths::wide_short;
+use super::widths::wide_word;
 use compiler::compile;
 use compiler::faults::number;
 use console::parts::place_of;
 use language::Answer;
 use language::Heads;
 use language::Table;
+use reader::widths::wide;
+use reader::widths::wide_byte;
 
 // The first three cells.
 fn say_cells(a: u32, b: u32, c: u32) {
-    tell(b", cells ", wide(a));
-    tell(b" ", wide(b));
-    tell(b" ", wide(c));
+    tell(b", cells ", wide_word(a));
+    tell(b" ", wide_word(b));
+    tell(b" ", wide_word(c));
 }
 
 fn say_heads(heads: Heads) {
     let omit = heads.omit;
     let extension = heads.extension;
     tell(b", processes ", wide_byte(heads.processes));
-    tell(b", data ", wide_short(heads.used));
+    tell(b", data ", wide(heads.used));
     tell(b", encode ", wide_byte(heads.encode));
     tell(b", omit ", wide_byte(heads.omits));
     tell(b" ", wide_byte(omit[0]));
@@ -47,12 +47,12 @@ fn answer(text: &[u8]) {
     let answer = compiled.answer;
     match answer {
         Answer::Accepted(stretch) => {
-            tell(b": stretch ", wide(stretch));
+            tell(b": stretch ", wide_word(stretch));
             say_table(compiled.table);
         }
         Answer::Refused(fault, line) => {
             tell(b": refused ", wide_byte(number(fault)));
-            tell(b" at ", wide(line));
+            tell(b" at ", wide_word(line));
         }
     }
 }

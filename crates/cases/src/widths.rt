@@ -1,14 +1,6 @@
 // A number in another width; one that does not fit becomes the largest that does.
 
-pub(crate) fn wide(n: u32) -> usize {
-    n as usize
-}
-
-pub(crate) fn wide_short(n: u16) -> usize {
-    n as usize
-}
-
-pub(crate) fn wide_byte(n: u8) -> usize {
+pub(crate) fn wide_word(n: u32) -> usize {
     n as usize
 }
 

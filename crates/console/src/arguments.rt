@@ -2,7 +2,7 @@
 use words::is_named;
 
 // What they ask for.
-pub enum Asks {
+pub enum Given {
     // `--help`.
     Help,
     // An option that is not known, or a word that is too long to be read.
@@ -51,13 +51,13 @@ pub fn is_word(i: usize, name: &[u8]) -> bool {
 }
 
 // What the words ask for, of which those from a place on may be no options.
-pub fn asked(from: usize) -> Asks {
+pub fn asked(from: usize) -> Given {
     let count = os::arg_count();
     if is_word(1, b"--help") {
-        return Asks::Help;
+        return Given::Help;
     }
     if all_plain(from, count) {
-        return Asks::Words(count);
+        return Given::Words(count);
     }
-    Asks::Mistaken
+    Given::Mistaken
 }

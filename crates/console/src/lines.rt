@@ -39,8 +39,7 @@ pub struct Next {
 
 // What is held of an input before the first read.
 pub fn nothing() -> Held
-    ensures { λ r. ⌜ (r .at ≡ 0) × (r .end ≡ 0) ⌝ }
-    ensures { λ r. ⌜ (r .«is_over» ≡ false) × (r .«is_failed» ≡ false) × (r .«is_cut» ≡ false) ⌝ }
+    ensures { λ r. ⌜ r ≡ record { at = 0; end = 0; «is_over» = false; «is_failed» = false; «is_cut» = false } ⌝ }
 {
     Held {
         at: 0,

@@ -1,5 +1,5 @@
 // The library `console`, tried by the gate on given words, input and files: a line for each answer.
-use console::arguments::Asks;
+use console::arguments::Given;
 use console::arguments::asked;
 use console::arguments::is_word;
 use console::lines::BLOCK;
@@ -26,13 +26,13 @@ fn usage(to: i32) {
 }
 
 fn say_words() {
-    let asks = asked(1);
-    match asks {
-        Asks::Help => usage(STDOUT_FILENO),
-        Asks::Mistaken => {
+    let given = asked(1);
+    match given {
+        Given::Help => usage(STDOUT_FILENO),
+        Given::Mistaken => {
             say(b"mistaken\n");
         }
-        Asks::Words(count) => {
+        Given::Words(count) => {
             say_number(count as u64) && say(b" words\n");
         }
     }

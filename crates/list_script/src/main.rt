@@ -1,7 +1,7 @@
 // Reads a script, of a file or on standard input, and prints its listing, or `refused N at L`.
 use compiler::compile;
 use compiler::faults::number;
-use console::arguments::Asks;
+use console::arguments::Given;
 use console::arguments::asked;
 use console::parts::first;
 use console::reading::Whole;
@@ -103,10 +103,10 @@ fn on_words(count: usize) {
 }
 
 fn main() {
-    let asks = asked(1);
-    match asks {
-        Asks::Help => usage(STDOUT_FILENO),
-        Asks::Mistaken => usage(STDERR_FILENO),
-        Asks::Words(count) => on_words(count),
+    let given = asked(1);
+    match given {
+        Given::Help => usage(STDOUT_FILENO),
+        Given::Mistaken => usage(STDERR_FILENO),
+        Given::Words(count) => on_words(count),
     }
 }

@@ -2,7 +2,7 @@
 //   replay SCRIPT < OPERATIONS
 //   replay --check NAME ..    holds whole cases against their files
 use compiler::compile;
-use console::arguments::Asks;
+use console::arguments::Given;
 use console::arguments::asked;
 use console::arguments::is_word;
 use console::parts::first;
@@ -80,10 +80,10 @@ fn on_words(is_check: bool, count: usize) {
 
 fn main() {
     let is_check = is_word(1, b"--check");
-    let asks = asked(if is_check { 2 } else { 1 });
-    match asks {
-        Asks::Help => usage(STDOUT_FILENO),
-        Asks::Mistaken => usage(STDERR_FILENO),
-        Asks::Words(count) => on_words(is_check, count),
+    let given = asked(if is_check { 2 } else { 1 });
+    match given {
+        Given::Help => usage(STDOUT_FILENO),
+        Given::Mistaken => usage(STDERR_FILENO),
+        Given::Words(count) => on_words(is_check, count),
     }
 }

@@ -6,6 +6,7 @@ use console::parts::rest_from;
 use process::Received;
 use process::RunRefusal;
 use process::Taken;
+use reader::widths::wide_byte;
 use statement::outcome::Outcome;
 use words::trimmed_end;
 use writer::put_decimal;
@@ -75,13 +76,9 @@ pub(crate) fn taken(answer: Taken) -> Said {
     }
 }
 
-fn wide(n: u8) -> usize {
-    n as usize
-}
-
 pub(crate) fn received(answer: Received) -> Said {
     match answer {
-        Received::Took(c) => bytes(144, wide(c.count)),
+        Received::Took(c) => bytes(144, wide_byte(c.count)),
         Received::Refused(why) => refused(why),
     }
 }

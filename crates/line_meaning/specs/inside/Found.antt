@@ -1,4 +1,4 @@
--- What the small functions of the code answer.
+-- How many bytes data are, as the code answers it.
 use lib.ListN.{length}
 use Rattle.hex.specs.Hex.{Said, good, bad}
 use Rattle.line_meaning.specs.declared.Found.{Found}

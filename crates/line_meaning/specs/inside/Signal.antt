@@ -1,4 +1,4 @@
--- What the small functions of the code answer.
+-- A wait for a level, as a line is told.
 use Prim.Native.Nat.{ℕ}
 use mathlib.Core.Bool.{Bool}
 use Rattle.language.specs.declared.Cell.the-variants.{WaitSignal}

@@ -1,4 +1,4 @@
--- What the small functions of the code answer: the units of a clock value.
+-- The units of a clock value, as the code reads them one after the other.
 use Prim.Native.Nat.{ℕ}
 use mathlib.Core.List.{List, [], _∷_}
 use lib.ListN.{getD}
