@@ -20,10 +20,11 @@ use Rattle.process.specs.declared.Wait.the-variants.{Ready, Over, Ticks, Bytes,
 use Rattle.process.specs.declared.Process.{Process}
 use Rattle.process.specs.Matching.{progress}
 use Rattle.process.specs.Waiting.{readyWait, ready, awake, withWait, tickedWait, awaited, matchedTo, matchedWait, byteWait, unitMatches, matches, readingWait, sameLevel, setsLevel, levelWait}
+use Rattle.process.proofs.Matches.{one-byte}
 use Rattle.bounded.proofs.Ahead.{Open, opensOf}
 use Rattle.running.specs.Running as script
 use Rattle.running.specs.Running.{Loop, forNothing, forTicks, forBytes, forData, forClock, forSignal, endsIn, units, ticked, gets, read, levelled, nextIn, nextBy, isStatement, waiting}
-use Rattle.running.proofs.Matches.{one-byte, whole-exactly}
+use Rattle.running.proofs.Matches.{whole-exactly}
 use Rattle.running.proofs.From.{from, from-end, from-some}
 
 -- ---- waits
