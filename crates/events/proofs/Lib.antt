@@ -1,6 +1,6 @@
 pub mod EventCases
 pub mod Copying
 pub mod DataCases
-pub mod Overlaps
+pub mod Links
 pub mod ByteCases
 pub mod Examples

@@ -1,2 +1,2 @@
 -- What the private functions answer, as the code goes through it. Nothing here has to be believed.
-pub mod Matching
+pub mod Links

@@ -1,32 +1,44 @@
--- `events::matching::advanced` meets its contract: the next byte of the data needs no search. Assumes nothing.
-use mathlib.Core.Path.{_∙_}
-use Rattle.events.proofs.Overlaps.{advance-hit, advanced-in, advanced-out}
-use denote.Ref.{now}
+-- `events::matching::advanced` meets its contract: a byte that goes on with the match, or comes where nothing is matched, needs no links. Assumes nothing.
+use native.Mathlib.Omega.{arith}
 use borrow.Author.Needs.{needs}
+use Rattle.events.proofs.Links.{advance-hit, advance-none, linked-fewer}
 use Rattle.events.proofs.matching.advanced.Statement.{statement}
 use Rattle.events.proofs.matching.advanced.Tie as tie
 
-shared-slice-read-if2 : tie.Need-shared-slice-read-if2
-shared-slice-read-if2 c = search needs
+shared-slice-read-if1 : tie.Need-shared-slice-read-if1
+shared-slice-read-if1 c = search needs
 
 add-result : tie.Need-add-result
 add-result c = search needs
 
 returns : tie.Need-returns
-returns c = let h = c .before .before .if1 .taken in advance-hit _ _ _ h (c .if2 .taken) ∙ advanced-in _ _ _ h
-
-searched-requires : tie.Need-searched-requires
-searched-requires c κs = search needs
+returns c =
+    let at-entry = c .before .before .before in
+    advance-hit _ _ _ (at-entry .pre .0) (c .if1 .taken)
 
 returns-2 : tie.Need-returns-2
 returns-2 c =
-    let at-if1 = c .before .before .before in
-    c .searched .ensures ∙ advanced-in _ _ _ (at-if1 .if1 .taken)
+    let at-if1 = c .before in
+    let at-entry = at-if1 .before .before .before in
+    advance-none _ _ _ (at-entry .pre .0) (at-if1 .if1 .left) (c .if2 .taken)
+
+linked-requires : tie.Need-linked-requires
+linked-requires c κs = search needs
+
+followed-requires : tie.Need-followed-requires
+followed-requires c κs = (omega arith, omega arith, linked-fewer (c .before .linked .ensures) (omega arith))
 
 returns-3 : tie.Need-returns-3
-returns-3 c = advanced-out _ _ _ (c .if1 .left)
+returns-3 c = c .followed .ensures
 
 pub advanced-spec : {M : Type 1} → statement M
 advanced-spec =
     tie.close
-    (tie.spec shared-slice-read-if2 add-result returns searched-requires returns-2 returns-3)
+    (tie.spec
+    shared-slice-read-if1
+    add-result
+    returns
+    returns-2
+    linked-requires
+    followed-requires
+    returns-3)

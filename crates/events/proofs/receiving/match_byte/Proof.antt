@@ -1,10 +1,10 @@
 -- `events::receiving::match_byte` meets its contract. Assumes nothing.
-use Rattle.events.proofs.Overlaps.{advance-le, advanced-in}
+use Rattle.events.proofs.Links.{advance-le}
 use Rattle.process.specs.Waiting.{matchedWait}
 use Rattle.process.specs.Matching.{advance}
 use mathlib.Core.List.{List}
 use Prim.Native.Nat.{ℕ, _<_}
-use mathlib.Core.Path.{sym, ap, ap₂, _∙_}
+use mathlib.Core.Path.{ap, ap₂, _∙_}
 use native.Mathlib.Omega.{arith}
 use denote.Ref.{now}
 use lib.ListN.{length}
@@ -20,47 +20,31 @@ wide-requires : tie.Need-wide-requires
 wide-requires c κs = search needs
 
 advanced-requires : tie.Need-advanced-requires
-advanced-requires c κs = search needs
+advanced-requires c κs =
+    let at-awaited-data = c .before in
+    let m = at-awaited-data .before .args .m in
+    let p = at-awaited-data .before .pre in
+    (omega (arith, at-awaited-data .awaited-data .ensures .1, within-data m p), omega (arith, within-data m p, within-pool m p))
 
 matched-requires : tie.Need-matched-requires
 matched-requires c κs =
-    let at-awaited-data = c .before .before in
+    let at-wide = c .before in
+    let at-awaited-data = at-wide .before in
     let m = at-awaited-data .before .args .m in
-    let l : c .before .wide .result < length (now (at-awaited-data .awaited-data .result)) = omega (
-      arith,
-      at-awaited-data .awaited-data .ensures .1,
-      c .before .wide .ensures,
-      within-data m (at-awaited-data .before .pre),
-    ) in
-    omega (
-      arith,
-      c .advanced .ensures,
-      advanced-in (now (at-awaited-data .awaited-data .result)) (c .before .wide .result)
-          (at-awaited-data .before .args .b) l,
-      advance-le (now (at-awaited-data .awaited-data .result)) (c .before .wide .result)
-          (at-awaited-data .before .args .b) l,
-      within-data m (at-awaited-data .before .pre),
-      within-pool m (at-awaited-data .before .pre),
-      c .before .wide .ensures,
-    )
+    let p = at-awaited-data .before .pre in
+    let l : at-wide .wide .result < length (now (at-awaited-data .awaited-data .result)) = omega (arith, at-awaited-data .awaited-data .ensures .1, within-data m p) in
+    let most = advance-le _ _ _ l (c .advanced .ensures) in
+    omega (arith, within-data m p, within-pool m p)
 
 returns : tie.Need-returns
 returns c =
     let at-wide = c .before .before in
     let at-awaited-data = at-wide .before in
-    let m = at-awaited-data .before .args .m in
-    let l : at-wide .wide .result < length (now (at-awaited-data .awaited-data .result)) = omega (
-      arith,
-      at-awaited-data .awaited-data .ensures .1,
-      at-wide .wide .ensures,
-      within-data m (at-awaited-data .before .pre),
-    ) in
+    let a = at-awaited-data .before .args in
     c .matched .ensures
-    ∙ ap (matchedWait (at-awaited-data .before .args .place) (at-awaited-data .before .args .end) m)
+    ∙ ap (matchedWait (a .place) (a .end) (a .m))
     (c .before .advanced .ensures
-    ∙ sym (advanced-in _ _ _ l)
-    ∙ ap₂ (λ (d : List ℕ) (k : ℕ). advance d k (at-awaited-data .before .args .b))
-    (at-awaited-data .awaited-data .ensures .0) (at-wide .wide .ensures))
+    ∙ ap₂ (λ (d : List ℕ) (k : ℕ). advance d k (a .b)) (at-awaited-data .awaited-data .ensures .0) (at-wide .wide .ensures))
 
 pub match-byte-spec : {M : Type 1} → statement M
 match-byte-spec =
