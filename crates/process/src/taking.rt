@@ -17,19 +17,11 @@ impl Process {
     }
 
     // A process with another wait.
-    pub fn with(self, wait: Wait) -> Self
+    pub fn with(mut self, wait: Wait) -> Self
         ensures { λ r. ⌜ r ≡ withWait self wait ⌝ }
     {
-        let left = self.left;
-        let back = self.back;
-        Process {
-            place: self.place,
-            end: self.end,
-            depth: self.depth,
-            left: left,
-            back: back,
-            wait: wait,
-        }
+        self.wait = wait;
+        self
     }
 
     // "WAIT TIME of n ms ends at the n-th tick": the process takes a tick and is handed back.
