@@ -45,7 +45,7 @@ pub(crate) fn cells_in_use(heads: Heads) -> Fit
     if PROCESSES < processes {
         return Fit::Not;
     }
-    if ends_zero(&ends, processes) {
+    if ends_zero(ends, processes) {
         return last_end(&ends, processes);
     }
     Fit::Not

@@ -13,9 +13,6 @@ returns c = no-process _ (c .if1 .taken)
 returns-2 : tie.Need-returns-2
 returns-2 c = many-processes _ (c .before .if1 .left) (c .if2 .taken)
 
-slice-aggregate-ends-zero : tie.Need-slice-aggregate-ends-zero
-slice-aggregate-ends-zero c = search needs
-
 ends-zero-requires : tie.Need-ends-zero-requires
 ends-zero-requires c κs = search needs
 
@@ -28,14 +25,14 @@ last-end-requires c κs = search needs
 returns-3 : tie.Need-returns-3
 returns-3 c =
     let at-if3 = c .before .before in
-    let at-if2 = at-if3 .before .before .before in
+    let at-if2 = at-if3 .before .before in
     let at-if1 = at-if2 .before in
     ends-clean _ (at-if1 .if1 .left) (at-if2 .if2 .left) (at-if3 .before .ends-zero .ensures) (at-if3 .if3 .taken)
     (c .last-end .ensures)
 
 returns-4 : tie.Need-returns-4
 returns-4 c =
-    let at-if2 = c .before .before .before in
+    let at-if2 = c .before .before in
     let at-if1 = at-if2 .before in
     ends-behind _ (at-if1 .if1 .left) (at-if2 .if2 .left) (c .before .ends-zero .ensures) (c .if3 .left)
 
@@ -46,7 +43,6 @@ cells-in-use-spec =
     cast-processes
     returns
     returns-2
-    slice-aggregate-ends-zero
     ends-zero-requires
     slice-aggregate-last-end
     last-end-requires
