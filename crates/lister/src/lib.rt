@@ -2,8 +2,9 @@
 ghost use mathlib.Core.Path.{_≡_};
 ghost use Rattle.lister.specs.Listed.{listAnswer, listInto};
 ghost use Rattle.language.specs.Table.{table};
-use crate::printer::ListingLength;
-use crate::printer::print;
+use crate::printer::listing_fits;
+use crate::printer::whole;
+use accepted::is_accepted;
 use language::Cells;
 use language::Heads;
 use language::Pool;
@@ -33,17 +34,13 @@ pub fn list<'a>(cells: &'a Cells, pool: &'a Pool, heads: Heads, out: &mut [u8]) 
     ensures { λ r. ⌜ (r ≡ listAnswer (table (now (cells .entry)) (now (pool .entry)) heads) (now (out .entry)))
         × (now (out .exit) ≡ listInto (table (now (cells .entry)) (now (pool .entry)) heads) (now (out .entry))) ⌝ }
 {
-    // A refusal alters no byte, so the length is learned first.
-    let mut nowhere = [0u8; 1];
-    let length = print(cells, pool, heads, &mut nowhere);
-    match length {
-        ListingLength::Bytes(count) => {
-            if out.len() < count {
-                return Listed::Refused(ListRefusal::NoRoom);
-            }
-            print(cells, pool, heads, out);
-            Listed::Wrote(count)
+    if is_accepted(cells, pool, heads) {
+        // A refusal alters no byte, so the room is tested before the first is written.
+        if listing_fits(cells, pool, heads, out.len()) {
+            let count = whole(cells, pool, heads, out);
+            return Listed::Wrote(count);
         }
-        ListingLength::BadTable => Listed::Refused(ListRefusal::BadTable),
+        return Listed::Refused(ListRefusal::NoRoom);
     }
+    Listed::Refused(ListRefusal::BadTable)
 }

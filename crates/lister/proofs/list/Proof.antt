@@ -1,6 +1,8 @@
--- `lister::list` meets its contract. Assumes nothing.
+-- `lister::list` meets its contract: each way out is a law of `Listing`. Assumes nothing.
+use mathlib.Core.Path.{sym, _∙_}
 use denote.Ref.{now}
 use Rattle.language.specs.declared.Table.{Table}
+use Rattle.lister.proofs.Fitting.{omits-few, listing-room}
 use Rattle.lister.proofs.Listing.{bad-table, no-room, wrote}
 use borrow.Author.Needs.{needs}
 use Rattle.lister.proofs.list.Statement.{statement}
@@ -10,57 +12,56 @@ use Rattle.lister.proofs.list.Tie as tie
 abbrev table : tie.Start → Table
 table s = record { cells = now (s .args .cells); pool = now (s .args .pool); heads = s .args .heads }
 
-slice-aggregate-print : tie.Need-slice-aggregate-print
-slice-aggregate-print c = search needs
+is-accepted-requires : tie.Need-is-accepted-requires
+is-accepted-requires c κs = search needs
 
-print-requires : tie.Need-print-requires
-print-requires c κs = search needs
+listing-fits-requires : tie.Need-listing-fits-requires
+listing-fits-requires c κs =
+    let at-accepted = c .before in
+    let t = table (at-accepted .before .before) in
+    let right = sym (at-accepted .is-accepted .ensures) ∙ c .if1 .taken in
+    (omits-few t right, listing-room t right)
 
-enum-known-length : tie.Need-enum-known-length
-enum-known-length c = search needs
-
-returns : tie.Need-returns
-returns c =
-    let at-length = c .before .before in
-    let at-print = at-length .before .before .before in
-    let at-entry = at-print .before .before .before in
-    no-room (table at-entry) _ (at-print .print .ensures .0) (at-length .length .given .1) (c .if1 .taken)
-
-print-requires-2 : tie.Need-print-requires-2
-print-requires-2 c κs = search needs
-
-enum-told : tie.Need-enum-told
-enum-told c = search needs
+whole-requires : tie.Need-whole-requires
+whole-requires c κs =
+    let at-if1 = c .before .before .before in
+    let at-accepted = at-if1 .before in
+    let t = table (at-accepted .before .before) in
+    let right = sym (at-accepted .is-accepted .ensures) ∙ at-if1 .if1 .taken in
+    (omits-few t right, listing-room t right)
 
 same-length : tie.Need-same-length
 same-length c = search needs
 
+returns : tie.Need-returns
+returns c =
+    let at-whole = c .before .before in
+    let at-if2 = at-whole .before .before in
+    let at-if1 = at-if2 .before .before in
+    let at-accepted = at-if1 .before in
+    wrote (table (at-accepted .before .before)) _ (at-accepted .is-accepted .ensures) (at-if1 .if1 .taken)
+    (at-if2 .before .listing-fits .ensures) (at-if2 .if2 .taken) (at-whole .whole .ensures)
+
 returns-2 : tie.Need-returns-2
 returns-2 c =
-    let at-print2 = c .before .before in
-    let at-if1 = at-print2 .before .before in
-    let at-length = at-if1 .before .before in
-    let at-print = at-length .before .before .before in
-    let at-entry = at-print .before .before .before in
-    wrote (table at-entry) _ (at-print .print .ensures .0) (at-length .length .given .1) (at-if1 .if1 .left)
-    (at-print2 .print2 .ensures .1)
+    let at-if1 = c .before .before in
+    let at-accepted = at-if1 .before in
+    no-room (table (at-accepted .before .before)) _ (at-accepted .is-accepted .ensures) (at-if1 .if1 .taken)
+    (c .before .listing-fits .ensures) (c .if2 .left)
 
 returns-3 : tie.Need-returns-3
 returns-3 c =
-    let at-print = c .before .before .before in
-    let at-entry = at-print .before .before .before in
-    bad-table (table at-entry) _ (at-print .print .ensures .0) (c .enum-told .given .1)
+    let at-accepted = c .before in
+    bad-table (table (at-accepted .before .before)) _ (at-accepted .is-accepted .ensures) (c .if1 .left)
 
 pub list-spec : {M : Type 1} → statement M
 list-spec =
     tie.close
     (tie.spec
-    slice-aggregate-print
-    print-requires
-    enum-known-length
-    returns
-    print-requires-2
-    enum-told
+    is-accepted-requires
+    listing-fits-requires
+    whole-requires
     same-length
+    returns
     returns-2
     returns-3)
