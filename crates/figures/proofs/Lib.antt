@@ -10,7 +10,7 @@ pub mod Cases
 pub mod Shapes
 pub mod Reading
 pub mod Nesting
-pub mod Scanning
 pub mod Counting
+pub mod Scanning
 pub mod Calls
 pub mod Cap

@@ -1,5 +1,5 @@
 -- One process after the other: what the loop over them keeps, and what each answer of a process does to it. Assumes nothing.
-use mathlib.Core.Path.{_≡_, refl, ap, sym, _∙_}
+use mathlib.Core.Path.{_≡_, refl, ap, sym, subst, _∙_}
 use mathlib.Core.Bool.{Bool, true, false, cond}
 use mathlib.Core.List.{List, _∷_, map}
 use Prim.Native.Nat.{ℕ, _+_, _≤_, _<_, max, min}
@@ -12,17 +12,16 @@ use borrow.Author.Tests.{le-leb, lt-leb}
 use Rattle.figures.specs.declared.Figures.{Figures}
 use Rattle.figures.specs.Flat.{Mark, deepest, marksNest}
 use Rattle.figures.specs.Cap.{limit}
-use Rattle.figures.specs.Figures.{figures}
-use Rattle.figures.specs.inside.Scan.{fragmentAt, Scanned}
-use Rattle.figures.proofs.Scanning.{nests-scannable}
 use Rattle.stretch.specs.declared.Alone.{Alone}
 use Rattle.stretch.specs.declared.Alone.the-variants.{Nests, Strays}
 use Rattle.stretch.specs.declared.Measured.{Measured}
 use Rattle.stretch.specs.declared.Measured.the-variants.{Largest, Over, Broken}
+use Rattle.stretch.specs.declared.Ran.{Ran}
+use Rattle.stretch.specs.declared.Ran.the-variants as ran
 use Rattle.stretch.specs.Marks.{wordMark, marksBetween, processesFrom, marksTo}
 use Rattle.stretch.specs.inside.Measured.{stretchIn, alone, measuredFrom}
-use Rattle.stretch.specs.inside.Scan.{ScannableRun}
-use Rattle.stretch.proofs.Marking.{marks-between, marks-length}
+use Rattle.stretch.specs.inside.Scan.{RunTells}
+use Rattle.stretch.proofs.Marking.{marks-between}
 
 -- ---- a process by its places
 
@@ -46,23 +45,19 @@ module _ (cells : List ℕ) (from end first behind : ℕ) (b : behind ≡ min en
       ap (map wordMark)
       (drop-clip from first (take behind cells) (omega (arith, length-take behind cells)) ∙ ap (drop from) (take-clip end behind cells b))
 
-  module _ (h : marksNest 0 (marksBetween cells first behind) ≡ true) where
-    -- a process whose loops nest may be scanned
-    pub run-starts : ScannableRun cells first behind deepest
-    run-starts =
-        record {
-          inside = omega arith;
-          scannable = nests-scannable (marksTo cells behind) first (omega (arith, marks-length cells behind (omega arith))) (ap (marksNest 0) (marks-between cells behind first) ∙ h);
-        }
+  -- what a scan of its marks tells
+  abbrev Told : Ran → Type 0
+  Told = RunTells (marksTo cells behind) first deepest
 
-    pub alone-nests : (found : Figures) (next : ℕ) → Scanned (marksTo cells behind) first (figures (fragmentAt (marksTo cells behind) first)) found next
-        → Nests (found .longest) ≡ alone (marksBetween cells from end)
-    alone-nests found next s =
-        let e : stretchIn (marksBetween cells first behind) ≡ found .longest = ap stretchIn (sym (marks-between cells behind first)) ∙ sym (ap (λ (a : Figures). a .longest) (s .exact)) in
-        rw (← clipped, h, e)
+  module _ (r : Ran) (t : Told r) where
+    pub alone-nests : (found : Figures) (next : ℕ) → r ≡ ran.To found next → Nests (found .longest) ≡ alone (marksBetween cells from end)
+    alone-nests found next e =
+        let s = subst Told e t in
+        let f : stretchIn (drop first (marksTo cells behind)) ≡ found .longest = sym (ap (λ (a : Figures). a .longest) (s .exact)) in
+        rw (← clipped, ← marks-between cells behind first, s .nests, f)
 
-  pub alone-strays : marksNest 0 (marksBetween cells first behind) ≡ false → Strays ≡ alone (marksBetween cells from end)
-  alone-strays h = rw (← clipped, h)
+    pub alone-strays : r ≡ ran.Strays → Strays ≡ alone (marksBetween cells from end)
+    alone-strays e = rw (← clipped, ← marks-between cells behind first, subst Told e t)
 
 -- ---- one after the other
 

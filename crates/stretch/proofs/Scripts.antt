@@ -2,15 +2,14 @@
 use mathlib.Core.Path.{_≡_, refl, ap, ap₂, sym, _∙_}
 use mathlib.Core.Bool.{Bool, true, false, cond, _&&_}
 use mathlib.Core.List.{List, [], _∷_, _++_, map}
-use Prim.Native.Nat.{ℕ, zero, suc, _+_, _-_, _<_}
-use native.Mathlib.Numerals.{add-one, sub-one}
+use Prim.Native.Nat.{ℕ, _<_}
 use native.Mathlib.Omega.{arith}
-use lib.Dec.{eqb, ltb}
+use lib.Dec.{ltb}
 use lib.ListN.{length, take}
 use lib.Seq.{slice}
-use borrow.Author.Tests.{lt-ltb, ne-eqb}
 use Rattle.figures.specs.Flat as flat
 use Rattle.figures.specs.Flat.{Mark, plain, sureRest}
+use Rattle.figures.proofs.Counting.{nests-end, nests-closes, nests-opens}
 use Rattle.language.specs.declared.Cell.{Cell}
 use Rattle.language.specs.declared.Cell.the-variants.{Nothing, Send, Loop, End, WaitTime, WaitData, WaitByte, WaitClock, WaitSignal, Rts, Log, Fchange, Pause, Resume, Nop, Unknown}
 use Rattle.language.specs.declared.Table.{Table}
@@ -90,36 +89,18 @@ unfoldable pub allNest : ℕ → List (List Mark) → Bool
 allNest opened [] = flat.marksNest opened []
 allNest opened (p ∷ ps) = flat.marksNest opened p && allNest 0 ps
 
-nests-end : (o : ℕ) → flat.marksNest o [] ≡ eqb o 0
-unfolding flat.marksNest
-nests-end zero = refl
-nests-end (suc o) = sym (ne-eqb (suc o) 0 (omega arith))
-
 module _ (d : ℕ) (ms : List Mark) where
   stays-on : (t : Bool) → flat.marksNest d (cond t sureRest plain ∷ ms) ≡ flat.marksNest d ms
   unfolding flat.marksNest
   stays-on true = refl
   stays-on false = refl
 
-closes-on : (d : ℕ) (ms : List Mark) → flat.marksNest d (flat.closes ∷ ms) ≡ (ltb 0 d && flat.marksNest (d - 1) ms)
-unfolding flat.marksNest
-closes-on zero ms = refl
-closes-on (suc d) ms = rw (lt-ltb 0 (suc d) (omega arith), sub-one (suc d))
-
-opens-on : (n d : ℕ) (ms : List Mark) → flat.marksNest d (flat.opens n ∷ ms) ≡ (ltb d 8 && flat.marksNest (d + 1) ms)
-unfolding flat.marksNest
-opens-on n d ms = rw (add-one d) (go (ltb d 8))
-  where
-    go : (t : Bool) → cond t (flat.marksNest (suc d) ms) false ≡ (t && flat.marksNest (suc d) ms)
-    go true = refl
-    go false = refl
-
 -- a statement first
 nests-statement : (s : Statement) (d : ℕ) (ms : List Mark) → flat.marksNest d (markOf s ∷ ms) ≡ (mayNest (shape s) d && flat.marksNest (depthAfter (shape s) d) ms)
 unfolding markOf mayNest depthAfter shape
 nests-statement (send bs) d ms = stays-on d ms false
-nests-statement (loop n) d ms = opens-on n d ms
-nests-statement end d ms = closes-on d ms
+nests-statement (loop n) d ms = nests-opens n d ms
+nests-statement end d ms = nests-closes d ms
 nests-statement (waitTime n) d ms = stays-on d ms (ltb 0 n)
 nests-statement (waitData bs) d ms = stays-on d ms true
 nests-statement (waitByte n) d ms = stays-on d ms (ltb 0 n)

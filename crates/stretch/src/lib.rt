@@ -11,15 +11,13 @@ ghost use mathlib.Core.Bool.{cond};
 ghost use Prim.Native.Nat.{_≤_, max, min};
 ghost use lib.Dec.{ltb};
 ghost use lib.ListN.{length, take};
-ghost use Rattle.figures.specs.Flat.{sureRest, plain, marksNest};
-ghost use Rattle.figures.specs.Figures.{looped, figures};
-ghost use Rattle.figures.specs.inside.Scan.{fragmentAt, Scanned};
+ghost use Rattle.figures.specs.Flat.{sureRest, plain};
 ghost use Rattle.language.specs.Limits.{processLimit};
 ghost use Rattle.stretch.specs.Marks.{cellMark, marksBetween, processesFrom, marksTo};
 ghost use Rattle.stretch.specs.inside.Roles.{marked};
 ghost use Rattle.stretch.specs.inside.Measured.{alone, measuredFrom, measured};
 ghost use Rattle.stretch.specs.Reported.{Reported};
-ghost use Rattle.stretch.specs.inside.Scan.{ScannableRun, ScannableBody};
+ghost use Rattle.stretch.specs.inside.Scan.{Scannable, RunTells, BodyTells};
 
 /// What is answered of a table.
 pub enum Measured {
@@ -45,10 +43,10 @@ enum Alone {
     Strays,
 }
 
-// What a scan finds: figures, and the place after what was scanned.
-struct Ran {
-    pub figures: Figures,
-    pub at: usize,
+// What a scan finds: figures, and the place after what was scanned; or that the loops do not nest.
+enum Ran {
+    To(Figures, usize),
+    Strays,
 }
 
 // "WAIT TIME and WAIT BYTE above zero".
@@ -74,12 +72,11 @@ fn role_of(c: Cell) -> Role
     }
 }
 
-// The figures of the statements from `at` on, up to the END of their loop or the place `end`, and the place after that END.
-// Loops nest at most `left` deep.
+// The figures of the statements from `at` on, up to the END of their loop or, where none is open, the place `end`, and the place after that.
+// Of eight loops `left` are left: at the top all, in a body one less.
 fn run_figures(cells: &Cells, at: usize, end: usize, left: usize) -> Ran
-    requires { ⌜ ScannableRun (now cells) at end left ⌝ }
-    ensures { λ r. ⌜ Scanned (marksTo (now (cells .entry)) end) at
-        (figures (fragmentAt (marksTo (now (cells .entry)) end) at)) (r .figures) (r .at) ⌝ }
+    requires { ⌜ Scannable (now cells) at end left ⌝ }
+    ensures { λ r. ⌜ RunTells (marksTo (now (cells .entry)) end) at left r ⌝ }
 {
     let mut sum = Figures::nothing();
     let mut i = at;
@@ -97,71 +94,39 @@ fn run_figures(cells: &Cells, at: usize, end: usize, left: usize) -> Ran
             Role::Loop(n) => {
                 let entered = sum.join(Figures::plain());
                 let body = body_figures(cells, i + 1, end, left, n);
-                let passes = body.figures;
+                let Ran::To(passes, next) = body else {
+                    return Ran::Strays;
+                };
                 sum = entered.join(passes);
-                i = body.at;
+                i = next;
             }
             Role::End => {
-                return Ran {
-                    figures: sum,
-                    at: i + 1,
-                };
+                if left < LOOPS {
+                    return Ran::To(sum, i + 1);
+                }
+                return Ran::Strays;
             }
         }
     }
-    Ran {
-        figures: sum,
-        at: i,
+    if left == LOOPS {
+        return Ran::To(sum, i);
     }
+    Ran::Strays
 }
 
 // The figures of all passes of LOOP n, whose body starts at `at`, and the place after its END.
 fn body_figures(cells: &Cells, at: usize, end: usize, left: usize, n: u32) -> Ran
-    requires { ⌜ ScannableBody (now cells) at end left ⌝ }
-    ensures { λ r. ⌜ Scanned (marksTo (now (cells .entry)) end) at
-        (looped n (figures (fragmentAt (marksTo (now (cells .entry)) end) at))) (r .figures) (r .at) ⌝ }
+    requires { ⌜ Scannable (now cells) at end left ⌝ }
+    ensures { λ r. ⌜ BodyTells (marksTo (now (cells .entry)) end) at left n r ⌝ }
 {
+    if left == 0 {
+        return Ran::Strays;
+    }
     let body = run_figures(cells, at, end, left - 1);
-    let once = body.figures;
-    Ran {
-        figures: once.passes(n),
-        at: body.at,
-    }
-}
-
-// Whether every loop from `at` up to the place `end` is closed there, no END stands alone, and at most eight are open at once.
-fn nested(cells: &Cells, at: usize, end: usize) -> bool
-    requires { ⌜ (at ≤ end) × (end ≤ length (now cells)) ⌝ }
-    ensures { λ r. ⌜ r ≡ marksNest 0 (marksBetween (now (cells .entry)) at end) ⌝ }
-{
-    let mut opened: usize = 0;
-    let mut i = at;
-    while i < end {
-        let role = role_of(cell_at(cells, i));
-        match role {
-            Role::Other => {
-                i += 1;
-            }
-            Role::SureRest => {
-                i += 1;
-            }
-            Role::Loop(_) => {
-                if LOOPS <= opened {
-                    return false;
-                }
-                opened += 1;
-                i += 1;
-            }
-            Role::End => {
-                if opened == 0 {
-                    return false;
-                }
-                opened -= 1;
-                i += 1;
-            }
-        }
-    }
-    opened == 0
+    let Ran::To(once, next) = body else {
+        return Ran::Strays;
+    };
+    Ran::To(once.passes(n), next)
 }
 
 // The smaller of two places.
@@ -185,12 +150,10 @@ fn measure(cells: &Cells, from: usize, end: usize) -> Alone
     let words: &[u32] = cells;
     let behind = smaller(end, words.len());
     let first = smaller(from, behind);
-    if nested(cells, first, behind) {
-        let run = run_figures(cells, first, behind, LOOPS);
-        let all = run.figures;
-        Alone::Nests(all.longest)
-    } else {
-        Alone::Strays
+    let run = run_figures(cells, first, behind, LOOPS);
+    match run {
+        Ran::To(all, _) => Alone::Nests(all.longest),
+        Ran::Strays => Alone::Strays,
     }
 }
 
