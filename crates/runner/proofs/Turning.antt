@@ -11,7 +11,6 @@ use borrow.Author.Tests.{lt-ltb, le-ltb, ltb-true}
 use Rattle.reader.proofs.Tests.{true-is-false}
 use Rattle.language.specs.declared.Cell.{Cell}
 use Rattle.language.specs.Limits.{linesLimit}
-use Rattle.language.specs.Cell.{decoded}
 use Rattle.process.specs.declared.Reading.{Reading}
 use Rattle.process.specs.declared.Process.{Process}
 use Rattle.process.specs.declared.RunRefusal.the-variants.{SmallBuffer, BadTable}
@@ -23,6 +22,7 @@ use Rattle.statement.specs.Saying.{outcomeOf, pausedBy, countedBy}
 use Rattle.runner.specs.declared.turn.Turn.{Turn}
 use Rattle.runner.specs.Writing.{writesFor}
 use Rattle.runner.specs.inside.Turns.{stays, turned, bufferTurned, countsTurned}
+use Rattle.runner.proofs.Written.{Performs}
 
 -- a statement that is found lies within the table
 pub found-inside : (cells : List ℕ) (levels : List Bool) (p : Process) {m : Moved} → m ≡ moved cells levels p → m .found ≡ true → p .place < linesLimit
@@ -59,17 +59,15 @@ module _ (cells pool : List ℕ) (levels : List Bool) (r : Reading) (paused : Bo
         (a ∙ rw (told true f, l), rw (told true f, l), rw (told true f, l))
 
     -- one statement
-    pub does-turn : {at : ℕ} {c : Cell} → at ≡ p .place → c ≡ decoded (getD cells at 0) → {o : Outcome} {x k : List ℕ} {b : Bool} → m .found ≡ true → 128 ≤ length out
-        → (o ≡ outcomeOf (length (writesFor pool r (getD counts at 0) c)) c) × (x ≡ sets out 0 (writesFor pool r (getD counts at 0) c)) × (k ≡ set counts at (countedBy (getD counts at 0) c))
-        → b ≡ pausedBy paused c → Turns (record { process = m .process; paused = b; outcome = o }) x k
+    pub does-turn : {at : ℕ} {c : Cell} → at ≡ p .place → c ≡ cellAt cells p → {o : Outcome} {x k : List ℕ} {b : Bool} → m .found ≡ true → 128 ≤ length out
+        → Performs pool r at counts out c o x k → b ≡ pausedBy paused c → Turns (record { process = m .process; paused = b; outcome = o }) x k
     unfolding turned bufferTurned countsTurned
     does-turn place cell f h w u =
         let n : 127 < length out = omega arith in
         let l = lt-ltb 127 (length out) n in
-        let c′ = cell ∙ ap (λ (a : ℕ). decoded (getD cells a 0)) place in
-        let o′ = w .0 ∙ ap₂ (λ (a : ℕ) (y : Cell). outcomeOf (length (writesFor pool r (getD counts a 0) y)) y) place c′ in
-        let x′ = w .1 ∙ ap₂ (λ (a : ℕ) (y : Cell). sets out 0 (writesFor pool r (getD counts a 0) y)) place c′ in
-        let k′ = w .2 ∙ ap₂ (λ (a : ℕ) (y : Cell). set counts a (countedBy (getD counts a 0) y)) place c′ in
+        let o′ = w .0 ∙ ap₂ (λ (a : ℕ) (y : Cell). outcomeOf (length (writesFor pool r (getD counts a 0) y)) y) place cell in
+        let x′ = w .1 ∙ ap₂ (λ (a : ℕ) (y : Cell). sets out 0 (writesFor pool r (getD counts a 0) y)) place cell in
+        let k′ = w .2 ∙ ap₂ (λ (a : ℕ) (y : Cell). set counts a (countedBy (getD counts a 0) y)) place cell in
         let q : m .process ≡ moved cells levels p .process = ap (λ (y : Moved). y .process) step in
-        let b′ = u ∙ ap (pausedBy paused) c′ in
+        let b′ = u ∙ ap (pausedBy paused) cell in
         (rw (q, b′, o′, told true f, l), x′ ∙ rw (told true f, l), k′ ∙ rw (told true f, l))

@@ -4,8 +4,8 @@ use mathlib.Core.Path.{_≡_, refl, sym, ap, _∙_}
 use mathlib.Core.List.{List, [], _∷_}
 use mathlib.Core.Logic.{_⊎_, inl, inr, ⊎-elim}
 use native.Mathlib.Omega.{arith}
-use lib.ListN.{length, take, drop, length-drop}
-use lib.Seq.{sets, length-take-le}
+use lib.ListN.{length, getD, set, take, drop, length-drop}
+use lib.Seq.{sets, set-getD, length-take-le}
 use types.Run.{OneOf, miss}
 use denote.Enum.Declared.{tagOf}
 use borrow.Author.Tests.{le-leb}
@@ -23,6 +23,8 @@ use Rattle.language.specs.Table.{dataAt}
 use Rattle.language.proofs.Cells.{SpanFits, span-fits, code-decode}
 use Rattle.process.specs.declared.Reading.{Reading}
 use Rattle.record.specs.Logging.{recordOf, recordAnswer, recordInto}
+use Rattle.statement.specs.declared.outcome.Outcome.{Outcome}
+use Rattle.statement.specs.Saying.{outcomeOf, countedBy}
 use Rattle.runner.specs.Writing.{writesFor}
 use Rattle.runner.specs.inside.Writing.{OfWord}
 
@@ -76,30 +78,45 @@ module _ (pool d : List ℕ) (s : Span) {f n : ℕ} (from : f ≡ s .from) (coun
 abbrev others : List ℕ
 others = 0 ∷ 2 ∷ 3 ∷ 4 ∷ 5 ∷ 6 ∷ 7 ∷ 8 ∷ 9 ∷ 11 ∷ 12 ∷ 13 ∷ 14 ∷ 15 ∷ []
 
-module _ (pool : List ℕ) (r : Reading) (count : ℕ) where
-  other-none : (c : Cell) → OneOf others (tagOf the-type c) → writesFor pool r count c ≡ []
-  unfolding writesFor
-  other-none Nothing h = refl
-  other-none (Send s) h = absurd (miss others 1 tt h)
-  other-none (Loop k) h = refl
-  other-none End h = refl
-  other-none (WaitTime k) h = refl
-  other-none (WaitData s) h = refl
-  other-none (WaitByte k) h = refl
-  other-none (WaitClock c) h = refl
-  other-none (WaitSignal l) h = refl
-  other-none (Rts on) h = refl
-  other-none (Log s) h = absurd (miss others 10 tt h)
-  other-none Fchange h = refl
-  other-none Pause h = refl
-  other-none Resume h = refl
-  other-none Nop h = refl
-  other-none Unknown h = refl
+-- the other statements write nothing and count nothing
+other-none : (pool : List ℕ) (r : Reading) (n : ℕ) (c : Cell) → OneOf others (tagOf the-type c) → (writesFor pool r n c ≡ []) × (countedBy n c ≡ n)
+unfolding writesFor countedBy
+other-none pool r n Nothing h = (refl, refl)
+other-none pool r n (Send s) h = absurd (miss others 1 tt h)
+other-none pool r n (Loop k) h = (refl, refl)
+other-none pool r n End h = (refl, refl)
+other-none pool r n (WaitTime k) h = (refl, refl)
+other-none pool r n (WaitData s) h = (refl, refl)
+other-none pool r n (WaitByte k) h = (refl, refl)
+other-none pool r n (WaitClock c) h = (refl, refl)
+other-none pool r n (WaitSignal l) h = (refl, refl)
+other-none pool r n (Rts on) h = (refl, refl)
+other-none pool r n (Log s) h = absurd (miss others 10 tt h)
+other-none pool r n Fchange h = (refl, refl)
+other-none pool r n Pause h = (refl, refl)
+other-none pool r n Resume h = (refl, refl)
+other-none pool r n Nop h = (refl, refl)
+other-none pool r n Unknown h = (refl, refl)
 
-  -- the other statements write nothing
-  pub written-none : (d : List ℕ) (c : Cell) → OneOf others (tagOf the-type c) → (0 ≡ length (writesFor pool r count c)) × (d ≡ sets d 0 (writesFor pool r count c))
-  written-none d c h = rw (other-none c h) (refl, refl)
+module _ (pool : List ℕ) (r : Reading) (at : ℕ) (counts out : List ℕ) where
+  -- the answer, and what the lent buffer and the lent counts hold at the end
+  abbrev pub Performs : Cell → Outcome → List ℕ → List ℕ → Type 0
+  Performs c o x k =
+      (o ≡ outcomeOf (length (writesFor pool r (getD counts at 0) c)) c) × (x ≡ sets out 0 (writesFor pool r (getD counts at 0) c)) × (k ≡ set counts at (countedBy (getD counts at 0) c))
 
-  pub written-some : (d : List ℕ) {c x : Cell} → c ≡ x → {n : ℕ} {y : List ℕ} → (n ≡ length (writesFor pool r count x)) × (y ≡ sets d 0 (writesFor pool r count x))
-      → (n ≡ length (writesFor pool r count c)) × (y ≡ sets d 0 (writesFor pool r count c))
-  written-some d is h = rw is h
+  -- what does not count on alters no count
+  still : (c : Cell) → countedBy (getD counts at 0) c ≡ getD counts at 0 → counts ≡ set counts at (countedBy (getD counts at 0) c)
+  still c e = rw (e, set-getD)
+
+  module _ {c : Cell} {s : Span} {n : ℕ} {x : List ℕ} {o : Outcome} where
+    pub send-performs : c ≡ Send s → (n ≡ length (dataAt pool s)) × (x ≡ sets out 0 (dataAt pool s)) → o ≡ outcomeOf n (Send s) → Performs c o x counts
+    unfolding writesFor countedBy
+    send-performs e w said = rw e (said ∙ rw (w .0), w .1, still (Send s) refl)
+
+    pub log-performs : c ≡ Log s → (n ≡ length (recordOf r (getD counts at 0) (dataAt pool s))) × (x ≡ sets out 0 (recordOf r (getD counts at 0) (dataAt pool s)))
+        → {k : ℕ} → k ≡ countedBy (getD counts at 0) (Log s) → o ≡ outcomeOf n (Log s) → Performs c o x (set counts at k)
+    unfolding writesFor
+    log-performs e w counted said = rw e (said ∙ rw (w .0), w .1, rw counted)
+
+  pub other-performs : (c : Cell) {o : Outcome} → OneOf others (tagOf the-type c) → o ≡ outcomeOf 0 c → Performs c o out counts
+  other-performs c h said = let n = other-none pool r (getD counts at 0) c h in (said ∙ rw (n .0), rw (n .0), still c (n .1))

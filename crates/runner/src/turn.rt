@@ -10,7 +10,6 @@ ghost use Rattle.runner.specs.Writing.{writesFor};
 ghost use Rattle.runner.specs.inside.Writing.{OfWord};
 ghost use Rattle.runner.specs.inside.Turns.{stays, turned, bufferTurned, countsTurned};
 ghost use Rattle.language.specs.Limits.{cellPlaces, poolPlaces, drainLeast};
-use cells::decoder::cell_at;
 use language::CELL_PLACES;
 use language::Cell;
 use language::Cells;
@@ -77,19 +76,6 @@ fn log(pool: &Pool, s: Span, r: Reading, count: u32, out: &mut [u8]) -> usize
     }
 }
 
-// Writes what a statement sends or records: how many bytes that is.
-fn write(cell: Cell, pool: &Pool, r: Reading, count: u32, out: &mut [u8]) -> usize
-    requires { ⌜ (OfWord cell) × (drainLeast ≤ length (now out)) ⌝ }
-    ensures { λ n. ⌜ (n ≡ length (writesFor (now (pool .entry)) r count cell))
-        × (now (out .exit) ≡ sets (now (out .entry)) 0 (writesFor (now (pool .entry)) r count cell)) ⌝ }
-{
-    match cell {
-        Cell::Send(s) => send(pool, s, out),
-        Cell::Log(s) => log(pool, s, r, count, out),
-        _ => 0,
-    }
-}
-
 // Does what a cell's statement does besides moving its process on. "Each LOG statement has its own `@c`": by the place of its cell.
 fn perform(
     cell: Cell,
@@ -106,10 +92,16 @@ fn perform(
         (writesFor (now (pool .entry)) r (getD (now (counts .entry)) at 0) cell))
         × (now (counts .exit) ≡ set (now (counts .entry)) at (countedBy (getD (now (counts .entry)) at 0) cell)) ⌝ }
 {
-    let count = counts[at];
-    let n = write(cell, pool, r, count, out);
-    counts[at] = counted(cell, count);
-    said(cell, n)
+    match cell {
+        Cell::Send(s) => said(cell, send(pool, s, out)),
+        Cell::Log(s) => {
+            let count = counts[at];
+            let n = log(pool, s, r, count, out);
+            counts[at] = counted(cell, count);
+            said(cell, n)
+        }
+        _ => said(cell, 0),
+    }
 }
 
 // "A refusal alters no state".
@@ -141,13 +133,14 @@ pub(crate) fn take_turn<'a>(
         × (now (counts .exit) ≡ countsTurned (now (cells .entry)) levels (now (counts .entry)) p
         (length (now (out .entry)))) ⌝ }
 {
-    let m = step(p, cells, levels);
+    let stepped = step(p, cells, levels);
+    let m = stepped.moved;
     if m.found {
         if out.len() < DRAIN {
             return refuse(p, paused, RunRefusal::SmallBuffer);
         }
         let at = wide(p.place);
-        let cell = cell_at(cells, at);
+        let cell = stepped.cell;
         let outcome = perform(cell, pool, reading, at, counts, out);
         let process = m.process;
         let paused = pauses(cell, paused);

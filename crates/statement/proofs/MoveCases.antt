@@ -1,6 +1,6 @@
 -- What the definitions of moving come to, case by case: a proof cites a case. Assumes nothing.
 use Prim.Native.Nat.{ℕ, _+_, _≤_, _<_}
-use mathlib.Core.Path.{_≡_, refl}
+use mathlib.Core.Path.{_≡_, refl, ap, _∙_}
 use mathlib.Core.Bool.{Bool, true, false}
 use mathlib.Core.List.{List, [], _∷_}
 use lib.ListN.{getD}
@@ -13,6 +13,7 @@ use Rattle.language.proofs.Cell.{the-type}
 use Rattle.language.specs.declared.Level.{Level}
 use Rattle.language.specs.declared.Span.{Span}
 use Rattle.language.specs.Limits.{linesLimit, dataLimit}
+use Rattle.language.specs.Cell.{decoded}
 use Rattle.process.specs.declared.Wait.{Wait}
 use Rattle.process.specs.declared.Wait.the-variants.{Data, Signal}
 use Rattle.process.specs.declared.Process.{Process}
@@ -50,6 +51,9 @@ module _ (p : Process) where
     pub data-leaves : dataLimit < s .from + (s .count + bytes) → astray p ≡ awaits p s cells bytes
     unfolding awaits
     data-leaves h = rw (lt-leb (s .from + (s .count + bytes)) dataLimit h)
+
+  pub cell-there : (cells : List ℕ) {i : ℕ} {c : Cell} → i ≡ p .place → c ≡ decoded (getD cells i 0) → c ≡ cellAt cells p
+  cell-there cells e h = h ∙ ap (λ (i : ℕ). decoded (getD cells i 0)) e
 
   module _ (cells : List ℕ) (levels : List Bool) where
     pub step-inside : p .place < linesLimit → p .place < p .end → movedBy cells levels p (cellAt cells p) ≡ moved cells levels p

@@ -4,7 +4,7 @@ ghost use mathlib.Core.Bool.{false};
 ghost use Prim.Native.Nat.{_+_, _<_, _≤_};
 ghost use lib.ListN.{getD};
 ghost use Rattle.statement.specs.inside.Joined.{joinedOf};
-ghost use Rattle.statement.specs.Moving.{goesOn, restsAt, awaits, restsUnless, signalled, afterPlace, movedBy, moved};
+ghost use Rattle.statement.specs.Moving.{goesOn, restsAt, awaits, restsUnless, signalled, afterPlace, movedBy, cellAt, moved};
 ghost use Rattle.language.specs.Limits.{cellPlaces};
 use crate::joining::Joined;
 use crate::joining::join;
@@ -32,6 +32,12 @@ use reader::widths::wide;
 const POOL: u32 = POOL_PLACES as u32;
 
 const CELLS: u16 = CELL_PLACES as u16;
+
+// A process after its statement, and the cell at its place, so that a drain decodes it once.
+pub struct Stepped {
+    pub moved: Moved,
+    pub cell: Cell,
+}
 
 // On to the next statement.
 fn passes_on(p: Process) -> Moved
@@ -111,19 +117,28 @@ fn moves_by(p: Process, cells: &Cells, levels: [bool; SIGNALS], cell: Cell) -> M
     }
 }
 
-// One statement of a process that is ready.
-pub fn step(p: Process, cells: &Cells, levels: [bool; SIGNALS]) -> Moved
+// Where its cell takes a process: its place lies within the table and before its end, or it strays.
+fn moves_at(p: Process, cells: &Cells, levels: [bool; SIGNALS], cell: Cell) -> Moved
+    requires { ⌜ cell ≡ cellAt (now cells) p ⌝ }
     ensures { λ r. ⌜ r ≡ moved (now (cells .entry)) levels p ⌝ }
 {
     let place = p.place;
     if place < CELLS {
         if place < p.end {
-            let cell = cell_at(cells, wide(place));
             return moves_by(p, cells, levels, cell);
         }
         return strays(p);
     }
     strays(p)
+}
+
+// One statement of a process that is ready.
+pub fn step(p: Process, cells: &Cells, levels: [bool; SIGNALS]) -> Stepped
+    ensures { λ r. ⌜ (r .moved ≡ moved (now (cells .entry)) levels p) × (r .cell ≡ cellAt (now (cells .entry)) p) ⌝ }
+{
+    let cell = cell_at(cells, wide(p.place));
+    let moved = moves_at(p, cells, levels, cell);
+    Stepped { moved, cell }
 }
 
 // A wait for a level.

@@ -16,30 +16,26 @@ refuse-requires c κs = search needs
 returns : tie.Need-returns
 returns c =
     let at-if1 = c .before .before in
-    let at-step = at-if1 .before in
+    let at-step = at-if1 .before .before in
     let a = at-step .before .before .args in
     small-turns (now (a .cells)) (now (a .pool)) (a .levels) (a .reading) (a .paused) (now (a .counts)) (a .p)
-    (now (a .out)) (at-step .step .ensures) (at-if1 .if1 .taken) (omega (arith, c .before .if2 .taken))
+    (now (a .out)) (at-step .step .ensures .0) (at-if1 .if1 .taken) (omega (arith, c .before .if2 .taken))
     (c .refuse .ensures)
 
 wide-requires : tie.Need-wide-requires
 wide-requires c κs = search needs
 
-cell-at-requires : tie.Need-cell-at-requires
-cell-at-requires c κs = search needs
-
 perform-requires : tie.Need-perform-requires
 perform-requires c κs =
-    let at-cell-at = c .before .before in
-    let at-wide = at-cell-at .before in
+    let at-wide = c .before .before in
     let at-if1 = at-wide .before .before in
-    let at-step = at-if1 .before in
+    let at-step = at-if1 .before .before in
     let a = at-step .before .before .args in (
-      of-word _ (at-cell-at .cell-at .ensures),
+      of-word _ (at-step .step .ensures .1),
       omega (
         arith,
         at-wide .wide .ensures,
-        found-inside (now (a .cells)) (a .levels) (a .p) (at-step .step .ensures)
+        found-inside (now (a .cells)) (a .levels) (a .p) (at-step .step .ensures .0)
             (at-if1 .if1 .taken),
       ),
       omega (arith, at-wide .before .if2 .left),
@@ -54,12 +50,11 @@ same-length c = search needs
 returns-2 : tie.Need-returns-2
 returns-2 c =
     let at-perform = c .before .before .before .before in
-    let at-cell-at = at-perform .before .before .before in
-    let at-wide = at-cell-at .before in
-    let at-step = at-wide .before .before .before in
+    let at-wide = at-perform .before .before .before in
+    let at-step = at-wide .before .before .before .before in
     let a = at-step .before .before .args in
     does-turn (now (a .cells)) (now (a .pool)) (a .levels) (a .reading) (a .paused) (now (a .counts)) (a .p)
-    (now (a .out)) (at-step .step .ensures) (at-wide .wide .ensures) (at-cell-at .cell-at .ensures)
+    (now (a .out)) (at-step .step .ensures .0) (at-wide .wide .ensures) (at-step .step .ensures .1)
     (at-wide .before .before .if1 .taken)
     (omega (arith, at-wide .before .if2 .left))
     (at-perform .perform .ensures)
@@ -70,10 +65,10 @@ refuse-requires-2 c κs = search needs
 
 returns-3 : tie.Need-returns-3
 returns-3 c =
-    let at-step = c .before .before in
+    let at-step = c .before .before .before in
     let a = at-step .before .before .args in
     astray-turns (now (a .cells)) (now (a .pool)) (a .levels) (a .reading) (a .paused) (now (a .counts)) (a .p)
-    (now (a .out)) (at-step .step .ensures) (c .before .if1 .left) (c .refuse2 .ensures)
+    (now (a .out)) (at-step .step .ensures .0) (c .before .if1 .left) (c .refuse2 .ensures)
 
 pub take-turn-spec : {M : Type 1} → statement M
 take-turn-spec =
@@ -83,7 +78,6 @@ take-turn-spec =
     refuse-requires
     returns
     wide-requires
-    cell-at-requires
     perform-requires
     pauses-requires
     same-length

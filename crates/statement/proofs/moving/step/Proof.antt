@@ -1,11 +1,6 @@
 -- `statement::moving::step` meets its contract. Assumes nothing.
-use mathlib.Core.Path.{ap, _∙_}
-use Prim.Native.Nat.{ℕ}
 use denote.Ref.{now}
-use lib.ListN.{getD}
-use Rattle.language.specs.Cell.{decoded}
-use Rattle.statement.specs.Moving.{movedBy}
-use Rattle.statement.proofs.MoveCases.{step-inside, step-over, step-out}
+use Rattle.statement.proofs.MoveCases.{cell-there}
 use borrow.Author.Needs.{needs}
 use Rattle.statement.proofs.moving.step.Statement.{statement}
 use Rattle.statement.proofs.moving.step.Tie as tie
@@ -16,47 +11,18 @@ wide-requires c κs = search needs
 cell-at-requires : tie.Need-cell-at-requires
 cell-at-requires c κs = search needs
 
-moves-by-requires : tie.Need-moves-by-requires
-moves-by-requires c κs = search needs
+moves-at-requires : tie.Need-moves-at-requires
+moves-at-requires c κs =
+    let at-wide = c .before in
+    let a = at-wide .before .args in
+    cell-there (a .p) (now (a .cells)) (at-wide .wide .ensures) (c .cell-at .ensures)
 
 returns : tie.Need-returns
 returns c =
-    let at-wide = c .before .before in
-    let at-if2 = at-wide .before in
-    let at-if1 = at-if2 .before .before in
-    let at-entry = at-if1 .before in
-    let a = at-entry .args in
-    c .moves-by .ensures
-    ∙ ap (movedBy (now (a .cells)) (a .levels) (a .p))
-    (c .before .cell-at .ensures ∙ ap (λ (i : ℕ). decoded (getD (now (a .cells)) i 0)) (at-wide .wide .ensures))
-    ∙ step-inside (a .p) (now (a .cells)) (a .levels) (at-if1 .if1 .taken) (at-if2 .if2 .taken)
-
-strays-requires : tie.Need-strays-requires
-strays-requires c κs = search needs
-
-returns-2 : tie.Need-returns-2
-returns-2 c =
-    let at-if1 = c .before .before .before in
-    let at-entry = at-if1 .before in
-    let a = at-entry .args in
-    c .strays .ensures ∙ step-over (a .p) (now (a .cells)) (a .levels) (at-if1 .if1 .taken) (c .before .if2 .left)
-
-strays-requires-2 : tie.Need-strays-requires-2
-strays-requires-2 c κs = search needs
-
-returns-3 : tie.Need-returns-3
-returns-3 c = let a = c .before .before .args in
-    c .strays2 .ensures ∙ step-out (a .p) (now (a .cells)) (a .levels) (c .before .if1 .left)
+    let at-cell-at = c .before in
+    let at-wide = at-cell-at .before in
+    let a = at-wide .before .args in
+    (c .moves-at .ensures, cell-there (a .p) (now (a .cells)) (at-wide .wide .ensures) (at-cell-at .cell-at .ensures))
 
 pub step-spec : {M : Type 1} → statement M
-step-spec =
-    tie.close
-    (tie.spec
-    wide-requires
-    cell-at-requires
-    moves-by-requires
-    returns
-    strays-requires
-    returns-2
-    strays-requires-2
-    returns-3)
+step-spec = tie.close (tie.spec wide-requires cell-at-requires moves-at-requires returns)
