@@ -1,11 +1,12 @@
 -- The states of `take_lines`' two loops, and what each turn makes of them. Assumes nothing.
 use Prim.Native.Nat.{ℕ, _+_, _-_, _≤_, _<_}
 use mathlib.Core.Path.{_≡_, refl, ap, subst, _∙_}
-use mathlib.Core.Bool.{true}
+use mathlib.Core.Bool.{Bool, true, false}
 use mathlib.Core.List.{List, [], _∷_}
 use native.Mathlib.Omega.{arith}
+use lib.Dec.{ltb}
 use lib.ListN.{length, getD, drop, replicate}
-use borrow.Author.Tests.{lt-ltb, le-leb}
+use borrow.Author.Tests.{ltb-true, ltb-false, lt-ltb, le-leb}
 use Rattle.reader.specs.Bytes.{all}
 use Rattle.language.specs.declared.TextFault.{TextFault}
 use Rattle.language.specs.declared.TextFault.the-variants.{LineTooLong}
@@ -29,8 +30,8 @@ use Rattle.compiler.specs.declared.drafting.Step.the-variants.{Going, St
 use Rattle.compiler.specs.declared.drafting.Drafted as code
 use Rattle.compiler.specs.inside.NoLines.{noLines}
 use Rattle.compiler.specs.inside.Drafting.{scriptIn, stacked, IsDraft, Took, Ready}
-use Rattle.compiler.specs.inside.Text.{part}
-use Rattle.compiler.proofs.Texts.{part-none, part-length, no-lines, in-lines, no-lf-more, feed-ends, text-ends, begins, first-lines}
+use Rattle.compiler.specs.inside.Text.{part, clearFrom, EndsAt}
+use Rattle.compiler.proofs.Texts.{part-none, part-length, no-lines, in-lines, no-lf-joined, clear-fits, clear-past, feed-ends, text-ends, begins, first-lines}
 use Rattle.compiler.proofs.Writing.{never}
 
 -- at the head of the loop over lines: the whole is the fold over the lines from `from` on, with what stands of the draft so far
@@ -49,7 +50,7 @@ pub record Scanning (s : List ℕ) (w : Drafting) (row from : ℕ) (cells pool :
   pub upto : e ≤ length s
   pub clean : NoLf (part s from e)
 
--- after that loop: the line is whole, and the others come after it
+-- after that loop, and the search in the bytes that it leaves: the line is whole, and the others come after it
 pub record Lined (s : List ℕ) (w : Drafting) (row from : ℕ) (cells pool : List ℕ) (e : ℕ) : Type 0 where
   pub folding : Folding s w row from cells pool
   pub begun : from ≤ e
@@ -125,35 +126,44 @@ no-further (going st) go r cells pool k e = absurd (never (r .step) (k .0) e)
 no-further (stop f n) go r cells pool k e = cc
 
 module _ {s : List ℕ} {w : Drafting} {row from : ℕ} {cells pool : List ℕ} where
-  -- a line is begun
-  pub opened : Folding s w row from cells pool → from < length s → Scanning s w row from cells pool from
-  opened f h = record { folding = f; text = h; begun = omega arith; upto = omega arith; clean = rw (part-none s from) }
-
   -- no line is left
   pub ended : (f : Folding s w row from cells pool) → length s ≤ from → compiled s ≡ answered (finished stretchOf (scriptIn (f .st)) (f .st .loops))
   unfolding fold
   ended f h = f .whole ∙ ap (λ (ls : List (List ℕ)). answered (fold stretchOf ls row (f .st))) (no-lines s from h)
 
-  module _ {e : ℕ} (g : Scanning s w row from cells pool e) where
-    pub passed : e < length s → (getD s e 0 ≡ 10 → ⊥) → Scanning s w row from cells pool (e + 1)
-    passed h n = record { folding = g .folding; text = g .text; begun = omega (arith, g .begun); upto = omega arith; clean = no-lf-more s from e (g .begun) h n (g .clean) }
+  -- a line is begun
+  pub opened : Folding s w row from cells pool → from < length s → Scanning s w row from cells pool from
+  opened f h = record { folding = f; text = h; begun = omega arith; upto = omega arith; clean = rw (part-none s from) }
 
-    pub at-feed : e < length s → getD s e 0 ≡ 10 → Lined s w row from cells pool e
-    at-feed h n = record { folding = g .folding; begun = g .begun; upto = g .upto; cut = feed-ends s from e (g .begun) h n (g .clean) }
+  module _ {m : ℕ} (g : Scanning s w row from cells pool m) where
+    -- sixteen bytes more hold no LF
+    pub passed : clearFrom s m ≡ true → Scanning s w row from cells pool (m + 16)
+    passed h = record { folding = g .folding; text = g .text; begun = omega (arith, g .begun); upto = clear-fits s m h; clean = clear-past s from m (g .begun) h (g .clean) }
 
-    pub at-end : length s ≤ e → Lined s w row from cells pool e
-    at-end h = record { folding = g .folding; begun = g .begun; upto = g .upto; cut = text-ends s from e (g .begun) h (g .upto) (g .text) (g .clean) }
+    -- the line ends at an LF or at the end of the text
+    pub at-end : {e : ℕ} → EndsAt s m e → Lined s w row from cells pool e
+    at-end {e} x = record { folding = g .folding; begun = begun; upto = x .upto; cut = go (ltb e (length s)) refl }
+      where
+        begun : from ≤ e
+        begun = omega (arith, g .begun, x .begun)
 
-    -- "line over 127": so many bytes and no LF, nor one at `e`
-    pub overlong : e < length s → (getD s e 0 ≡ 10 → ⊥) → lineLimit < e - from → compiled s ≡ answered (refused LineTooLong row)
+        clean : NoLf (part s from e)
+        clean = no-lf-joined s from m e (g .begun) (x .begun) (g .clean) (x .clear)
+
+        go : (t : Bool) → ltb e (length s) ≡ t → linesOf (drop from s) ≡ dropCr (part s from e) ∷ linesOf (drop (e + 1) s)
+        go true t = let h : e < length s = ltb-true e (length s) t in feed-ends s from e begun h (x .feed h) clean
+        go false t = text-ends s from e begun (ltb-false e (length s) t) (x .upto) (g .text) clean
+
+    -- "line over 127": so many bytes and no LF, nor one among sixteen more
+    pub overlong : clearFrom s m ≡ true → lineLimit < m - from → compiled s ≡ answered (refused LineTooLong row)
     unfolding fold takeLine goOn
-    overlong h n k =
+    overlong h k =
         let f = g .folding in
-        let q = passed h n in
-        let b = begins s from (e + 1) (omega (arith, g .begun)) (omega (arith, g .begun)) (omega arith) (q .clean) in
-        let long : lineLimit < length (dropCr (b .first)) = omega (arith, cr-length (b .first), b .long, part-length s from (e + 1) (q .begun) (q .upto)) in
+        let q = passed h in
+        let b = begins s from (m + 16) (q .begun) (omega (arith, g .begun)) (q .upto) (q .clean) in
+        let long : lineLimit < length (dropCr (b .first)) = omega (arith, cr-length (b .first), b .long, part-length s from (m + 16) (q .begun) (q .upto)) in
         f .whole
-        ∙ ap (λ (ls : List (List ℕ)). answered (fold stretchOf ls row (f .st))) (first-lines s from (e + 1) (q .begun) b)
+        ∙ ap (λ (ls : List (List ℕ)). answered (fold stretchOf ls row (f .st))) (first-lines s from (m + 16) (q .begun) b)
         ∙ rw (lt-ltb lineLimit (length (dropCr (b .first))) long)
 
   -- the line without its CR ends at `behind`

@@ -9,6 +9,7 @@ use language::TextFault;
 
 mod drafting;
 pub mod faults;
+mod feeds;
 mod lines;
 mod needs;
 mod steps;

@@ -22,6 +22,8 @@ use crate::drafting::is_comment;
 use crate::drafting::no_lines;
 use crate::drafting::refusal;
 use crate::drafting::stop;
+use crate::feeds::next_feed;
+use crate::feeds::no_feed;
 use language::Answer;
 use language::CELL_PLACES;
 use language::Cells;
@@ -120,7 +122,7 @@ fn finish(cells: &Cells, pool: &Pool, work: Drafting) -> Compiled
     }
 }
 
-// The lines one after the other, byte by byte to each one's end; the first fault ends both loops.
+// The lines one after the other, sixteen bytes at a time up to the LF; the first fault ends both loops.
 fn take_lines(text: &[u8]) -> Compiled
     requires { ⌜ length (now text) ≤ textLimit ⌝ }
     ensures { λ r. ⌜ r ≡ compiled (now (text .entry)) ⌝ }
@@ -133,17 +135,15 @@ fn take_lines(text: &[u8]) -> Compiled
     let mut row = 1u32;
     let mut start = 0usize;
     'lines: while start < text.len() {
-        let mut end = start;
-        while end < text.len() {
-            if text[end] == b'\n' {
-                break;
-            }
-            if LINE < end - start {
+        let mut clear = start;
+        while no_feed(text, clear) {
+            if LINE < clear - start {
                 step = Step::Stop(TextFault::LineTooLong, row);
                 break 'lines;
             }
-            end += 1;
+            clear += 16;
         }
+        let end = next_feed(text, clear);
         let behind = without_cr(text, start, end);
         let line = &text[start..behind];
         let taken = take_line(line, row, work, &mut lent, &mut cells, &mut pool);

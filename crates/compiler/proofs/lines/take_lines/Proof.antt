@@ -1,22 +1,24 @@
 -- `take_lines` meets its contract: each turn of its two loops is a law on their states, `Folding` and `Scanning`. Assumes nothing.
 use Prim.Native.Nat.{ℕ, _-_, _<_}
 use mathlib.Core.Path.{_≡_, refl, sym, _∙_}
+use mathlib.Core.Bool.{true}
 use mathlib.Core.Logic.{⊎-elim}
 use native.Mathlib.Omega.{arith}
 use borrow.Author.Needs.{needs}
 use denote.Ref.{now}
 use lib.ListN.{length, getD}
 use Rattle.compiler.specs.declared.drafting.Step.the-variants.{Going}
-use Rattle.compiler.proofs.Folding.{Folding, Scanning, Lined, first, ready, opened, passed, at-feed, at-end, overlong, in-line, goes-on, refuses, Answered, all-taken, at-fault}
+use Rattle.compiler.specs.inside.Text.{clearFrom}
+use Rattle.compiler.proofs.Folding.{Folding, Scanning, Lined, first, ready, opened, passed, at-end, overlong, in-line, goes-on, refuses, Answered, all-taken, at-fault}
 use Rattle.compiler.proofs.Ending.{never-broken}
 use Rattle.compiler.proofs.lines.take_lines.Statement.{statement}
 use Rattle.compiler.proofs.lines.take_lines.Tie as tie
 
 abbrev Inv-loop : tie.InvT-loop
-Inv-loop text cells pool lent work row start end₀ end = Scanning text work row start cells pool end
+Inv-loop text cells pool lent work row start clear₀ clear = Scanning text work row start cells pool clear
 
 abbrev μ-loop : tie.MeasureT-loop
-μ-loop text cells pool lent work row start end₀ end = length text - end
+μ-loop text cells pool lent work row start clear₀ clear = length text - clear
 
 abbrev Inv-lines : tie.InvT-lines
 Inv-lines text cells₀ pool₀ lent₀ work₀ step₀ row₀ start₀ cells pool lent work step row start = Folding text work row start cells pool × (step ≡ Going)
@@ -33,28 +35,38 @@ lines-holds c = (rw (c .no-lines .ensures) (first _ (c .before .before .pre)), r
 loop-holds : tie.Need-loop-holds Inv-loop μ-loop Inv-lines μ-lines
 loop-holds c = opened (c .before .lines .inv .0) (omega arith)
 
-shared-slice-read-if1 : tie.Need-shared-slice-read-if1 Inv-loop μ-loop Inv-lines μ-lines
-shared-slice-read-if1 c = omega arith
+no-feed-requires : tie.Need-no-feed-requires Inv-loop μ-loop Inv-lines μ-lines
+no-feed-requires c κs = c .loop .inv .upto
+
+-- sixteen bytes more hold no LF
+clears : (c : tie.Then1 Inv-loop μ-loop Inv-lines μ-lines)
+    → let at-loop = c .before .before in
+    let at-entry = at-loop .before .before .before .before .before in
+    clearFrom (now (at-entry .args .text)) (at-loop .loop .clear) ≡ true
+clears c = sym (c .before .no-feed .ensures) ∙ c .if1 .taken
 
 sub-if2 : tie.Need-sub-if2 Inv-loop μ-loop Inv-lines μ-lines
-sub-if2 c =
-    let at-loop = c .before .before .before in
-    omega (arith, at-loop .loop .inv .begun)
+sub-if2 c = omega (arith, c .before .before .loop .inv .begun)
 
-add-end : tie.Need-add-end Inv-loop μ-loop Inv-lines μ-lines
-add-end c = omega arith
+add-clear : tie.Need-add-clear Inv-loop μ-loop Inv-lines μ-lines
+add-clear c =
+    let q = passed (c .before .before .before .loop .inv) (clears (c .before)) in
+    omega (arith, q .upto)
 
 loop-less : tie.Need-loop-less Inv-loop μ-loop Inv-lines μ-lines
-loop-less c = omega arith
+loop-less c =
+    let q = passed (c .before .before .before .loop .inv) (clears (c .before)) in
+    omega (arith, q .upto)
 
 loop-again : tie.Need-loop-again Inv-loop μ-loop Inv-lines μ-lines
-loop-again c =
-    let at-loop = c .before .before .before .before in
-    passed (at-loop .loop .inv) (omega arith) (c .before .if1 .left)
+loop-again c = passed (c .before .before .before .loop .inv) (clears (c .before))
 
--- where the loop over the bytes has been left, at an LF or at the end of the text
-lined : (c : tie.Left-loop Inv-loop μ-loop Inv-lines μ-lines)
-    → let at-lines = c .before .before .before in
+next-feed-requires : tie.Need-next-feed-requires Inv-loop μ-loop Inv-lines μ-lines
+next-feed-requires c κs = c .before .before .loop .inv .upto
+
+-- where the line ends, at an LF or at the end of the text
+lined : (c : tie.After-next-feed Inv-loop μ-loop Inv-lines μ-lines)
+    → let at-lines = c .before .before .before .before .before in
     let at-entry = at-lines .before .before .before in
     Lined
     (now (at-entry .args .text))
@@ -63,17 +75,15 @@ lined : (c : tie.Left-loop Inv-loop μ-loop Inv-lines μ-lines)
     (at-lines .lines .start)
     (at-lines .lines .cells)
     (at-lines .lines .pool)
-    (c .before .loop .end)
-lined c =
-    let g = c .before .loop .inv in
-    ⊎-elim (λ a. at-end g (a .left)) (λ a. at-feed g (a .0 .taken) (a .2 .taken)) (c .loop-test .came)
+    (c .next-feed .result)
+lined c = at-end (c .before .before .before .loop .inv) (c .next-feed .ensures)
 
 -- a text is of bytes
-bytes : (c : tie.Left-loop Inv-loop μ-loop Inv-lines μ-lines) (i : ℕ)
-    → let at-entry = c .before .before .before .before .before .before in
+bytes : (c : tie.After-next-feed Inv-loop μ-loop Inv-lines μ-lines) (i : ℕ)
+    → let at-entry = c .before .before .before .before .before .before .before .before in
     getD (now (at-entry .args .text)) i 0 < 256
 bytes c i =
-    let at-read = c .before .before .before .before .before in
+    let at-read = c .before .before .before .before .before .before .before in
     omega (arith, at-read .shared-slice-known .given i)
 
 without-cr-requires : tie.Need-without-cr-requires Inv-loop μ-loop Inv-lines μ-lines
@@ -104,22 +114,22 @@ enum-told c = search needs
 
 add-row : tie.Need-add-row Inv-loop μ-loop Inv-lines μ-lines
 add-row c =
-    let at-loop-test = c .before .before .before .before .before .before .before .before .before in
-    let at-entry = at-loop-test .before .before .before .before .before .before in
-    let g = lined at-loop-test in
+    let at-next-feed = c .before .before .before .before .before .before .before .before .before in
+    let at-entry = at-next-feed .before .before .before .before .before .before .before .before in
+    let g = lined at-next-feed in
     omega (arith, g .folding .rows, g .begun, g .upto, at-entry .pre)
 
 add-start : tie.Need-add-start Inv-loop μ-loop Inv-lines μ-lines
 add-start c =
-    let at-loop-test = c .before .before .before .before .before .before .before .before .before in
-    let g = lined at-loop-test in
+    let at-next-feed = c .before .before .before .before .before .before .before .before .before in
+    let g = lined at-next-feed in
     omega (arith, g .upto)
 
 lines-less : tie.Need-lines-less Inv-loop μ-loop Inv-lines μ-lines
 lines-less c =
-    let at-loop-test = c .before .before .before .before .before .before .before .before .before in
-    let g = lined at-loop-test in
-    omega (arith, at-loop-test .before .before .lines-test .taken, g .begun)
+    let at-next-feed = c .before .before .before .before .before .before .before .before .before in
+    let g = lined at-next-feed in
+    omega (arith, at-next-feed .before .before .before .before .lines-test .taken, g .begun)
 
 lines-again : tie.Need-lines-again Inv-loop μ-loop Inv-lines μ-lines
 lines-again c =
@@ -152,12 +162,19 @@ left c =
     ⊎-elim
     (λ w. all-taken (c .before .lines .inv .0) (w .0 .left) (w .1) (w .2) (w .3 ∙ c .before .lines .inv .1))
     (λ x. ⊎-elim
-    (λ w. at-fault _ _ (w .8) (overlong (w .1 .inv) (w .2 .taken) (w .4 .left) (w .5 .taken)))
     (λ w.
-    let l : tie.Left-loop Inv-loop μ-loop Inv-lines μ-lines =
-    record { before = record { before = record { before = c .before; lines-test = w .0 }; loop = w .1 }; loop-test = w .2 }
+    let l : tie.Then1 Inv-loop μ-loop Inv-lines μ-lines =
+    record { before = record { before = record { before = record { before = c .before; lines-test = w .0 }; loop = w .1 }; no-feed = w .2 }; if1 = w .3 }
     in
-    at-fault _ _ (w .13 ∙ w .10 .given .1) (refuses _ (lined l) (bytes l) (w .3 .ensures .2) _ _ _ (w .8 .ensures) (w .10 .given .1)))
+    at-fault _ _ (w .7) (overlong (w .1 .inv) (clears l) (w .4 .taken)))
+    (λ w.
+    let l : tie.After-next-feed Inv-loop μ-loop Inv-lines μ-lines =
+    record {
+      before = record { before = record { before = record { before = record { before = c .before; lines-test = w .0 }; loop = w .1 }; no-feed = w .2 }; if1 = w .3 };
+      next-feed = w .4;
+    }
+    in
+    at-fault _ _ (w .15 ∙ w .12 .given .1) (refuses _ (lined l) (bytes l) (w .5 .ensures .2) _ _ _ (w .10 .ensures) (w .12 .given .1)))
     x)
     (c .lines-test .came)
 
@@ -192,11 +209,12 @@ take-lines-spec =
     no-lines-requires
     lines-holds
     loop-holds
-    shared-slice-read-if1
+    no-feed-requires
     sub-if2
-    add-end
+    add-clear
     loop-less
     loop-again
+    next-feed-requires
     without-cr-requires
     sub-line
     part-line-start
