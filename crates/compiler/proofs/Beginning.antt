@@ -12,16 +12,14 @@ use Rattle.language.specs.Limits.{processLimit}
 use Rattle.language.specs.Script.{Item, next}
 use Rattle.language.specs.Draft.{Draft, withNext, withFirst, beginning, takeProcess}
 use Rattle.language.specs.Table.{wordsFrom, endsFrom, headsOf}
-use Rattle.compiler.specs.declared.drafting.Drafting.{Drafting}
 use Rattle.compiler.specs.declared.drafting.Step.the-variants.{Stop}
-use Rattle.compiler.specs.declared.drafting.Drafted as code
-use Rattle.compiler.specs.inside.Drafting.{stacked, IsDraft, Took, Takes}
+use Rattle.compiler.specs.inside.Drafting.{Work, Stepped, stacked, IsDraft, Took, Takes}
 use Rattle.compiler.proofs.Padding.{set-behind}
 use Rattle.compiler.proofs.Bodies.{pool-next, words-next, ends-next}
 use Rattle.compiler.proofs.Standing.{Goes, goes, headsWith, heads-with}
 use Rattle.compiler.proofs.Nesting.{innermost}
 
-abbrev nextIn : Drafting → Drafting
+abbrev nextIn : Work → Work
 nextIn w =
     record {
       counted = w .counted;
@@ -32,15 +30,15 @@ nextIn w =
       heads = headsWith (w .heads) (w .heads .processes + 1) (set (w .heads .ends) (w .heads .processes) (w .cells)) (w .heads .used);
     }
 
-abbrev firstIn : Drafting → Drafting
+abbrev firstIn : Work → Work
 firstIn w = record { counted = w .counted; cells = w .cells; opened = w .opened; loops = w .loops; begun = true; heads = w .heads }
 
 -- after a statement or another such line
-abbrev pub Nexts : ℕ → Drafting → code.Drafted → Type 0
+abbrev pub Nexts : ℕ → Work → Stepped → Type 0
 Nexts row w r =
     (st : Draft) (cells pool : List ℕ) → IsDraft st w cells pool → st .loops ≡ [] → st .begun ≡ true → Took (beginning row st) r cells pool
 
-module _ (row : ℕ) {w : Drafting} (r : code.Drafted) where
+module _ (row : ℕ) {w : Work} (r : Stepped) where
   pub next-on : w .heads .processes < processLimit → Goes r (nextIn w) → Nexts row w r
   unfolding beginning withNext headsOf stacked
   next-on k g st cells pool h l b =

@@ -18,11 +18,10 @@ use Rattle.language.proofs.SoundBody.{Sound}
 use Rattle.stretch.specs.declared.Measured.the-variants.{Largest, Over, Broken}
 use Rattle.stretch.specs.inside.Measured.{measured}
 use Rattle.stretch.proofs.Verdicts.{script-largest, script-over, script-nests}
-use Rattle.compiler.specs.declared.drafting.Drafting.{Drafting}
-use Rattle.compiler.specs.inside.Drafting.{scriptIn, IsDraft}
+use Rattle.compiler.specs.inside.Drafting.{Work, scriptIn, IsDraft}
 use Rattle.compiler.proofs.Nesting.{innermost}
 
-module _ {st : Draft} {w : Drafting} {cells pool : List ℕ} (i : Sound 0 st) (h : IsDraft st w cells pool) where
+module _ {st : Draft} {w : Work} {cells pool : List ℕ} (i : Sound 0 st) (h : IsDraft st w cells pool) where
   -- "loop open at .. the end of text: line of the innermost"
   pub open-end : 0 < w .opened → answered (refused LoopLeftOpen (getD (w .loops) (w .opened - 1) 0)) ≡ answered (finished stretchOf (scriptIn st) (st .loops))
   unfolding finished

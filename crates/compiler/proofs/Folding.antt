@@ -11,7 +11,7 @@ use Rattle.reader.specs.Bytes.{all}
 use Rattle.language.specs.declared.TextFault.{TextFault}
 use Rattle.language.specs.declared.TextFault.the-variants.{LineTooLong}
 use Rattle.language.specs.declared.Heads.{Heads}
-use Rattle.language.specs.Limits.{textLimit, lineLimit, linesLimit, dataLimit}
+use Rattle.language.specs.Limits.{textLimit, lineLimit, linesLimit, dataLimit, processPlaces, loopPlaces}
 use Rattle.language.specs.Lines.{dropCr, linesOf}
 use Rattle.language.specs.Script.{Item, does, next, default, dataOf}
 use Rattle.language.specs.Stretch.{stretchOf}
@@ -27,15 +27,14 @@ use Rattle.language.proofs.SoundBody.{Sound, needs-listed}
 use Rattle.compiler.specs.declared.drafting.Drafting.{Drafting}
 use Rattle.compiler.specs.declared.drafting.Step.{Step}
 use Rattle.compiler.specs.declared.drafting.Step.the-variants.{Going, Stop}
-use Rattle.compiler.specs.declared.drafting.Drafted as code
-use Rattle.compiler.specs.inside.NoLines.{noLines}
-use Rattle.compiler.specs.inside.Drafting.{scriptIn, stacked, IsDraft, Took, Ready}
+use Rattle.compiler.specs.inside.NoLines.{noLines, noSettings}
+use Rattle.compiler.specs.inside.Drafting.{Work, workOf, Stepped, scriptIn, stacked, IsDraft, Took, Ready}
 use Rattle.compiler.specs.inside.Text.{part, clearFrom, EndsAt}
 use Rattle.compiler.proofs.Texts.{part-none, part-length, no-lines, in-lines, no-lf-joined, clear-fits, clear-past, feed-ends, text-ends, begins, first-lines}
 use Rattle.compiler.proofs.Writing.{never}
 
 -- at the head of the loop over lines: the whole is the fold over the lines from `from` on, with what stands of the draft so far
-pub record Folding (s : List ℕ) (w : Drafting) (row from : ℕ) (cells pool : List ℕ) : Type 0 where
+pub record Folding (s : List ℕ) (w : Work) (row from : ℕ) (cells pool : List ℕ) : Type 0 where
   pub st : Draft
   pub sound : Sound 0 st
   pub stands : IsDraft st w cells pool
@@ -43,7 +42,7 @@ pub record Folding (s : List ℕ) (w : Drafting) (row from : ℕ) (cells pool : 
   pub whole : compiled s ≡ answered (fold stretchOf (linesOf (drop from s)) row st)
 
 -- at the head of the loop over a line's bytes: none up to `e` is an LF
-pub record Scanning (s : List ℕ) (w : Drafting) (row from : ℕ) (cells pool : List ℕ) (e : ℕ) : Type 0 where
+pub record Scanning (s : List ℕ) (w : Work) (row from : ℕ) (cells pool : List ℕ) (e : ℕ) : Type 0 where
   pub folding : Folding s w row from cells pool
   pub text : from < length s
   pub begun : from ≤ e
@@ -51,7 +50,7 @@ pub record Scanning (s : List ℕ) (w : Drafting) (row from : ℕ) (cells pool :
   pub clean : NoLf (part s from e)
 
 -- after that loop, and the search in the bytes that it leaves: the line is whole, and the others come after it
-pub record Lined (s : List ℕ) (w : Drafting) (row from : ℕ) (cells pool : List ℕ) (e : ℕ) : Type 0 where
+pub record Lined (s : List ℕ) (w : Work) (row from : ℕ) (cells pool : List ℕ) (e : ℕ) : Type 0 where
   pub folding : Folding s w row from cells pool
   pub begun : from ≤ e
   pub upto : e ≤ length s
@@ -59,7 +58,11 @@ pub record Lined (s : List ℕ) (w : Drafting) (row from : ℕ) (cells pool : Li
 
 -- ---- before the first line
 
-nothing : IsDraft start noLines (replicate linesLimit 0) (replicate dataLimit 0)
+-- the work before the first line
+abbrev noWork : Work
+noWork = workOf noLines (replicate loopPlaces 0) (replicate processPlaces 0) noSettings
+
+nothing : IsDraft start noWork (replicate linesLimit 0) (replicate dataLimit 0)
 unfolding start default wordsFrom poolOf endsFrom headsOf stacked
 nothing =
     record {
@@ -76,7 +79,7 @@ nothing =
       bytes = refl;
     }
 
-pub first : (s : List ℕ) → length s ≤ textLimit → Folding s noLines 1 0 (replicate linesLimit 0) (replicate dataLimit 0)
+pub first : (s : List ℕ) → length s ≤ textLimit → Folding s noWork 1 0 (replicate linesLimit 0) (replicate dataLimit 0)
 unfolding compiled scriptFrom resultOf
 first s h = record { st = start; sound = start-sound; stands = nothing; rows = omega arith; whole = rw (le-leb (length s) textLimit h) }
 
@@ -95,11 +98,12 @@ body-few [] = omega arith
 body-few (does s ∷ is) = omega (arith, items-length (does s ∷ is))
 body-few (next ∷ is) = omega (arith, items-length (next ∷ is))
 
-pub ready : {s : List ℕ} {w : Drafting} {row from : ℕ} {cells pool : List ℕ} → Folding s w row from cells pool → Ready w
+pub ready : {s : List ℕ} (w : Drafting) (loops ends settings : List ℕ) {row from : ℕ} {cells pool : List ℕ}
+    → Folding s (workOf w loops ends settings) row from cells pool → Ready w
 unfolding headsOf
-ready {w = w} f =
+ready w loops ends settings f =
     let st = f .st in
-    let processes : w .heads .processes ≡ length (endsFrom 0 (st .body)) = ap (λ (x : Heads). x .processes) (f .stands .heads) in
+    let processes : w .processes ≡ length (endsFrom 0 (st .body)) = ap (λ (x : Heads). x .processes) (f .stands .heads) in
     record {
       room = omega (arith, f .stands .written, f .stands .counted, cells-few 0 (st .body), f .sound .lines, needs-listed (st .begun) (st .body), body-few (st .body));
       deep = omega (arith, f .stands .opened, f .sound .deep);
@@ -108,24 +112,24 @@ ready {w = w} f =
     }
 
 -- where a line goes on, and where it stops
-record Onward (t : LineTaken) (go : Draft → Result) (r : code.Drafted) (cells pool : List ℕ) : Type 0 where
+record Onward (t : LineTaken) (go : Draft → Result) (r : Stepped) (cells pool : List ℕ) : Type 0 where
   st : Draft
   sound : Sound 0 st
   stands : IsDraft st (r .work) cells pool
   is : goOn t go ≡ go st
 
-onward : (t : LineTaken) (go : Draft → Result) (r : code.Drafted) (cells pool : List ℕ) → Holds t → Took t r cells pool → r .step ≡ Going → Onward t go r cells pool
+onward : (t : LineTaken) (go : Draft → Result) (r : Stepped) (cells pool : List ℕ) → Holds t → Took t r cells pool → r .step ≡ Going → Onward t go r cells pool
 unfolding goOn
 onward (going st) go r cells pool h k e = record { st = st; sound = h; stands = k .1; is = refl }
 onward (stop f n) go r cells pool h k e = absurd (never (r .step) e k)
 
-no-further : (t : LineTaken) (go : Draft → Result) (r : code.Drafted) (cells pool : List ℕ) {f : TextFault} {n : ℕ} → Took t r cells pool → r .step ≡ Stop f n
+no-further : (t : LineTaken) (go : Draft → Result) (r : Stepped) (cells pool : List ℕ) {f : TextFault} {n : ℕ} → Took t r cells pool → r .step ≡ Stop f n
     → goOn t go ≡ refused f n
 unfolding goOn
 no-further (going st) go r cells pool k e = absurd (never (r .step) (k .0) e)
 no-further (stop f n) go r cells pool k e = cc
 
-module _ {s : List ℕ} {w : Drafting} {row from : ℕ} {cells pool : List ℕ} where
+module _ {s : List ℕ} {w : Work} {row from : ℕ} {cells pool : List ℕ} where
   -- no line is left
   pub ended : (f : Folding s w row from cells pool) → length s ≤ from → compiled s ≡ answered (finished stretchOf (scriptIn (f .st)) (f .st .loops))
   unfolding fold
@@ -180,7 +184,7 @@ module _ {s : List ℕ} {w : Drafting} {row from : ℕ} {cells pool : List ℕ} 
     line-whole = g .folding .whole ∙ ap (λ (ls : List (List ℕ)). answered (fold stretchOf ls row (g .folding .st))) lines
 
     -- what the code has found that it does
-    module _ (r : code.Drafted) (cells′ pool′ : List ℕ) (took : (st : Draft) → IsDraft st w cells pool → Took (takeLine row st (part s from behind)) r cells′ pool′) where
+    module _ (r : Stepped) (cells′ pool′ : List ℕ) (took : (st : Draft) → IsDraft st w cells pool → Took (takeLine row st (part s from behind)) r cells′ pool′) where
       found : Took (takeLine row (g .folding .st) (part s from behind)) r cells′ pool′
       found = took (g .folding .st) (g .folding .stands)
 
@@ -196,26 +200,26 @@ module _ {s : List ℕ} {w : Drafting} {row from : ℕ} {cells pool : List ℕ} 
 -- ---- after the loop over the lines
 
 -- all lines are taken, and the end of the text decides
-pub record Ended (s : List ℕ) (w : Drafting) (cells pool : List ℕ) : Type 0 where
+pub record Ended (s : List ℕ) (w : Work) (cells pool : List ℕ) : Type 0 where
   pub st : Draft
   pub sound : Sound 0 st
   pub stands : IsDraft st w cells pool
   pub whole : compiled s ≡ answered (finished stretchOf (scriptIn st) (st .loops))
 
 -- the answer, by the step that the lines came to
-pub record Answered (s : List ℕ) (w : Drafting) (step : Step) (cells pool : List ℕ) : Type 0 where
+pub record Answered (s : List ℕ) (w : Work) (step : Step) (cells pool : List ℕ) : Type 0 where
   pub none : step ≡ Going → Ended s w cells pool
   pub some : (f : TextFault) (n : ℕ) → step ≡ Stop f n → compiled s ≡ answered (refused f n)
 
-pub all-taken : {s : List ℕ} {w : Drafting} {step : Step} {row from : ℕ} {cells pool cells′ pool′ : List ℕ} → Folding s w row from cells pool
-    → length s ≤ from → cells′ ≡ cells → pool′ ≡ pool → step ≡ Going → Answered s w step cells′ pool′
-all-taken {step = step} f h a b e =
+pub all-taken : {s : List ℕ} {w w′ : Work} {step : Step} {row from : ℕ} {cells pool cells′ pool′ : List ℕ} → Folding s w row from cells pool
+    → length s ≤ from → w′ ≡ w → cells′ ≡ cells → pool′ ≡ pool → step ≡ Going → Answered s w′ step cells′ pool′
+all-taken {step = step} f h x a b e =
     record {
-      none = λ _. record { st = f .st; sound = f .sound; stands = rw (a, b) (f .stands); whole = ended f h };
-      some = λ x n k. absurd (never step e k);
+      none = λ _. record { st = f .st; sound = f .sound; stands = rw (x, a, b) (f .stands); whole = ended f h };
+      some = λ g n k. absurd (never step e k);
     }
 
-pub at-fault : {s : List ℕ} {w : Drafting} {step : Step} {cells pool : List ℕ} (f : TextFault) (n : ℕ) → step ≡ Stop f n → compiled s ≡ answered (refused f n)
+pub at-fault : {s : List ℕ} {w : Work} {step : Step} {cells pool : List ℕ} (f : TextFault) (n : ℕ) → step ≡ Stop f n → compiled s ≡ answered (refused f n)
     → Answered s w step cells pool
 at-fault {step = step} f n e c =
     record {

@@ -22,9 +22,8 @@ use Rattle.language.proofs.Meanings.{meaning-right}
 use Rattle.language.proofs.TableCells.{data-room, data-few}
 use Rattle.compiler.specs.declared.drafting.Drafting.{Drafting}
 use Rattle.compiler.specs.declared.drafting.Step.the-variants.{Stop}
-use Rattle.compiler.specs.declared.drafting.Drafted as code
 use Rattle.compiler.specs.inside.NoLines.{commentLine}
-use Rattle.compiler.specs.inside.Drafting.{IsDraft, Took, HasRoom, Ready, bytesOfLine, Steps}
+use Rattle.compiler.specs.inside.Drafting.{Work, Stepped, IsDraft, Took, HasRoom, Ready, bytesOfLine, Steps}
 use Rattle.compiler.proofs.Standing.{Goes, goes}
 use Rattle.compiler.proofs.Stepping.{bytes-told, steps-on}
 
@@ -55,13 +54,14 @@ data-fits (setOmit bs) h = omega (arith, data-room omitRoom bs h)
 data-fits (setLfext e) h = omega arith
 data-fits (fault n) h = omega arith
 
-abbrev countedIn : Drafting → Drafting
+abbrev countedIn : Work → Work
 countedIn w = record { counted = w .counted + 1; cells = w .cells; opened = w .opened; loops = w .loops; begun = w .begun; heads = w .heads }
 
-pub counted-within : {w : Drafting} → Ready w → w .counted < linesLimit → HasRoom (countedIn w)
+pub counted-within : {w : Drafting} → Ready w → w .counted < linesLimit
+    → HasRoom (record { counted = w .counted + 1; cells = w .cells; opened = w .opened; begun = w .begun; processes = w .processes; used = w .used })
 counted-within i k = record { room = omega (arith, i .room); deep = i .deep; some = i .some; few = i .few }
 
-counted-on : {st : Draft} {w : Drafting} {cells pool : List ℕ} → IsDraft st w cells pool → IsDraft (countLine st) (countedIn w) cells pool
+counted-on : {st : Draft} {w : Work} {cells pool : List ℕ} → IsDraft st w cells pool → IsDraft (countLine st) (countedIn w) cells pool
 unfolding countLine
 counted-on h =
     record {
@@ -79,10 +79,10 @@ counted-on h =
     }
 
 -- what a line comes to, for every draft that stands
-abbrev pub Lines : ℕ → List ℕ → Drafting → List ℕ → List ℕ → code.Drafted → List ℕ → List ℕ → Type 0
+abbrev pub Lines : ℕ → List ℕ → Work → List ℕ → List ℕ → Stepped → List ℕ → List ℕ → Type 0
 Lines row l w cells pool r cells′ pool′ = (st : Draft) → IsDraft st w cells pool → Took (takeLine row st l) r cells′ pool′
 
-pub long-stop : (row : ℕ) (l : List ℕ) (w : Drafting) (cells pool : List ℕ) (r : code.Drafted) → lineLimit < length l → r .step ≡ Stop LineTooLong row
+pub long-stop : (row : ℕ) (l : List ℕ) (w : Work) (cells pool : List ℕ) (r : Stepped) → lineLimit < length l → r .step ≡ Stop LineTooLong row
     → Lines row l w cells pool r cells pool
 unfolding takeLine
 long-stop row l w cells pool r k e st h = rw (lt-ltb lineLimit (length l) k) e
@@ -98,7 +98,7 @@ module _ (l : List ℕ) (short : length l ≤ lineLimit) {said : Line} (told : s
   pub said-fits : all inLine l ≡ true → bytesOfLine said ≤ 128
   said-fits i = omega (arith, ap bytesOfLine says-meaning ∙ bytes-told (meaning l), data-fits (meaning l) (meaning-right l short i))
 
-  module _ (row : ℕ) (w : Drafting) (cells pool : List ℕ) (r : code.Drafted) where
+  module _ (row : ℕ) (w : Work) (cells pool : List ℕ) (r : Stepped) where
     pub comment-on : commentLine said ≡ true → Goes r w → Lines row l w cells pool r cells pool
     unfolding takeLine
     comment-on c g st h = rw (le-ltb lineLimit (length l) short, sym comment-is ∙ c) (goes g h)

@@ -10,10 +10,8 @@ use Rattle.language.specs.declared.TextFault.the-variants.{TooManyLoops, EndWit
 use Rattle.language.specs.Limits.{loopLimit}
 use Rattle.language.specs.Script.{Shape, opens, closes, stays}
 use Rattle.language.specs.Draft.{Draft, nest}
-use Rattle.compiler.specs.declared.drafting.Drafting.{Drafting}
 use Rattle.compiler.specs.declared.drafting.Step.the-variants.{Stop}
-use Rattle.compiler.specs.declared.drafting.Drafted as code
-use Rattle.compiler.specs.inside.Drafting.{stacked, IsDraft, Took, Takes, withLoops, nestedIn, Nests}
+use Rattle.compiler.specs.inside.Drafting.{Work, Stepped, stacked, IsDraft, Took, Takes, withLoops, nestedIn, Nests}
 use Rattle.compiler.proofs.Standing.{Goes, goes}
 
 stacked-length : (ls : List ℕ) → length (stacked ls) ≡ length ls
@@ -36,18 +34,18 @@ without-last l ls noted e =
     ∙ ap (take (length ls)) e
     ∙ take-at (stacked ls) (l ∷ []) (length ls) (stacked-length ls)
 
-abbrev openedBy : ℕ → Drafting → Drafting
+abbrev openedBy : ℕ → Work → Work
 openedBy row w =
     record { counted = w .counted; cells = w .cells; opened = w .opened + 1; loops = set (w .loops) (w .opened) row; begun = w .begun; heads = w .heads }
 
-abbrev closedIn : Drafting → Drafting
+abbrev closedIn : Work → Work
 closedIn w = record { counted = w .counted; cells = w .cells; opened = w .opened - 1; loops = w .loops; begun = w .begun; heads = w .heads }
 
-module _ {w : Drafting} (row : ℕ) (r : code.Drafted) where
+module _ {w : Work} (row : ℕ) (r : Stepped) where
   -- the cells and the heads stay as they are
-  kept : (shape : Shape) {w′ : Drafting} → r .work ≡ w′ → w′ .cells ≡ w .cells → w′ .heads ≡ w .heads
+  kept : (shape : Shape) {w′ : Work} → r .work ≡ w′ → w′ .cells ≡ w .cells → w′ .heads ≡ w .heads
       → Takes (λ st. nestedIn row st (nest row shape (st .loops))) w r → Nests shape row w r
-  kept shape e a b t = record { takes = t; cells = ap (λ (x : Drafting). x .cells) e ∙ a; heads = ap (λ (x : Drafting). x .heads) e ∙ b }
+  kept shape e a b t = record { takes = t; cells = ap (λ (x : Work). x .cells) e ∙ a; heads = ap (λ (x : Work). x .heads) e ∙ b }
 
   pub stays-on : Goes r w → Nests stays row w r
   unfolding nestedIn nest withLoops

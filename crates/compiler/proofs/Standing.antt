@@ -9,16 +9,22 @@ use Rattle.language.specs.Script.{Settings, Item}
 use Rattle.language.specs.Draft.{Draft, going}
 use Rattle.language.specs.Table.{padded, poolOf, endsFrom, headsOf}
 use Rattle.compiler.specs.declared.drafting.Drafting.{Drafting}
+use Rattle.compiler.specs.declared.drafting.Drafted.{Drafted}
+use Rattle.compiler.specs.declared.drafting.Step.{Step}
 use Rattle.compiler.specs.declared.drafting.Step.the-variants.{Going}
-use Rattle.compiler.specs.declared.drafting.Drafted as code
-use Rattle.compiler.specs.inside.Drafting.{IsDraft, Took}
+use Rattle.compiler.specs.inside.Drafting.{Work, workOf, Stepped, steppedTo, IsDraft, Took}
 
 -- the lines go on with this work
-abbrev pub Goes : code.Drafted → Drafting → Type 0
+abbrev pub Goes : Stepped → Work → Type 0
 Goes r w = (r .step ≡ Going) × (r .work ≡ w)
 
-pub goes : {st : Draft} {w : Drafting} {cells pool : List ℕ} {r : code.Drafted} → Goes r w → IsDraft st w cells pool → Took (going st) r cells pool
-goes {st} {w} {cells} {pool} g h = (g .0, subst (λ (x : Drafting). IsDraft st x cells pool) (sym (g .1)) h)
+pub goes : {st : Draft} {w : Work} {cells pool : List ℕ} {r : Stepped} → Goes r w → IsDraft st w cells pool → Took (going st) r cells pool
+goes {st} {w} {cells} {pool} g h = (g .0, subst (λ (x : Work). IsDraft st x cells pool) (sym (g .1)) h)
+
+-- what the code hands back by value, with the lent arrays
+pub handed : {r : Drafted} {w : Drafting} {x : Step} (loops ends settings : List ℕ) → (r .step ≡ x) × (r .work ≡ w)
+    → (steppedTo r loops ends settings .step ≡ x) × (steppedTo r loops ends settings .work ≡ workOf w loops ends settings)
+handed loops ends settings g = (g .0, ap (λ (v : Drafting). workOf v loops ends settings) (g .1))
 
 -- ---- heads with other processes and data
 

@@ -13,9 +13,7 @@ use Rattle.language.specs.Script.{Meaning, comment, blank, process, setEx, says
 use Rattle.language.specs.Meaning.{extension, isCapital}
 use Rattle.language.specs.inside.Right.{meaningRight}
 use Rattle.language.specs.Draft as draft
-use Rattle.compiler.specs.declared.drafting.Drafting.{Drafting}
-use Rattle.compiler.specs.declared.drafting.Drafted as code
-use Rattle.compiler.specs.inside.Drafting.{Fronts, bytesOfLine, Into, Steps}
+use Rattle.compiler.specs.inside.Drafting.{Work, Stepped, Fronts, bytesOfLine, Into, Steps}
 use Rattle.compiler.proofs.Writing.{told}
 
 few-letters : (e : List ℕ) → extension e ≡ true → length e ≤ 3
@@ -36,7 +34,7 @@ bytes-told (setOmit bs) = refl
 bytes-told (setLfext e) = refl
 bytes-told (fault f) = refl
 
-module _ (row : ℕ) (lent : List ℕ) (w : Drafting) (cells pool : List ℕ) (r : code.Drafted) (cells′ pool′ : List ℕ) where
+module _ (row : ℕ) (lent : List ℕ) (w : Work) (cells pool : List ℕ) (r : Stepped) (cells′ pool′ : List ℕ) where
   pub steps-on : (m : Meaning) → meaningRight m ≡ true → Fronts lent (dataFrom m) → Steps row lent w cells pool r cells′ pool′ (lineFrom m)
       → Into row lent w cells pool r cells′ pool′ (λ st. draft.takeMeaning row st m)
   unfolding lineFrom dataFrom draft.takeMeaning meaningRight

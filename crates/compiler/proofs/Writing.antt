@@ -17,17 +17,17 @@ use Rattle.language.specs.Draft.{Draft, Nested, now, broken, nest, going, withI
 use Rattle.language.specs.Cell.{coded}
 use Rattle.language.specs.Table.{padded, cellFor, wordsFrom, poolOf, endsFrom, headsOf}
 use Rattle.compiler.specs.declared.drafting.Drafting.{Drafting}
+use Rattle.compiler.specs.declared.drafting.Drafted.{Drafted}
 use Rattle.compiler.specs.declared.drafting.Needs.{Needs}
 use Rattle.compiler.specs.declared.drafting.Step.{Step}
 use Rattle.compiler.specs.declared.drafting.Step.the-variants.{Going, Stop}
-use Rattle.compiler.specs.declared.drafting.Drafted as code
 use Rattle.compiler.specs.inside.Needs.{needsOf, countIn, shapeIn, placedAt}
-use Rattle.compiler.specs.inside.Drafting.{IsDraft, Took, withLoops, nestedIn, Nests, HasRoom, HasRoomFor, Writes}
+use Rattle.compiler.specs.inside.Drafting.{Work, workOf, Stepped, steppedTo, IsDraft, Took, withLoops, nestedIn, Nests, HasRoom, HasRoomFor, Writes}
 use Rattle.compiler.proofs.Padding.{padded-length, put-behind, set-behind, set-last, front-of}
 use Rattle.compiler.proofs.Bodies.{pool-does, words-does, Ends, ends-does}
 use Rattle.compiler.proofs.Standing.{Goes, goes, headsWith, heads-with}
 
-abbrev writtenIn : Drafting → ℕ → Drafting
+abbrev writtenIn : Work → ℕ → Work
 writtenIn w size =
     record {
       counted = w .counted;
@@ -38,7 +38,7 @@ writtenIn w size =
       heads = headsWith (w .heads) (w .heads .processes) (set (w .heads .ends) (w .heads .processes - 1) (w .cells + 1)) (w .heads .used + size);
     }
 
-pub written-on : {st : Draft} (s : Statement) {w : Drafting} {word : ℕ} {bs cells pool : List ℕ} → w .cells < linesLimit → w .heads .used + length bs ≤ dataLimit
+pub written-on : {st : Draft} (s : Statement) {w : Work} {word : ℕ} {bs cells pool : List ℕ} → w .cells < linesLimit → w .heads .used + length bs ≤ dataLimit
     → word ≡ coded (cellFor (st .used) s) → bs ≡ dataOf s → IsDraft st w cells pool
     → IsDraft (withItem st (st .loops) s) (writtenIn w (length bs)) (set cells (w .cells) word) (putInto bs pool (w .heads .used))
 unfolding withItem headsOf putInto
@@ -102,13 +102,13 @@ pub never : (x : Step) {f : TextFault} {n : ℕ} → x ≡ Going → x ≡ Stop 
 never x p q = let z : _≡_ {A = ℕ} 0 1 = cc in omega arith
 
 -- where the loops do not nest, the fault stands; where they do, the statement is written with the loops that are then nested
-nested-stop : (row : ℕ) (st : Draft) (s : Statement) (n : Nested) (r : code.Drafted) (cells pool : List ℕ) {f : TextFault} {at : ℕ} → r .step ≡ Stop f at
+nested-stop : (row : ℕ) (st : Draft) (s : Statement) (n : Nested) (r : Stepped) (cells pool : List ℕ) {f : TextFault} {at : ℕ} → r .step ≡ Stop f at
     → Took (nestedIn row st n) r cells pool → Took (takeNested row st s n) r cells pool
 unfolding nestedIn takeNested
 nested-stop row st s (now ls) r cells pool e t = absurd (never (r .step) (t .0) e)
 nested-stop row st s (broken f) r cells pool e t = t
 
-nested-on : (row : ℕ) (st : Draft) (s : Statement) (n : Nested) (nested r : code.Drafted) (cells pool cells′ pool′ : List ℕ) → nested .step ≡ Going
+nested-on : (row : ℕ) (st : Draft) (s : Statement) (n : Nested) (nested r : Stepped) (cells pool cells′ pool′ : List ℕ) → nested .step ≡ Going
     → ((st₁ : Draft) → st₁ .used ≡ st .used → IsDraft st₁ (nested .work) cells pool → Took (going (withItem st₁ (st₁ .loops) s)) r cells′ pool′)
     → Took (nestedIn row st n) nested cells pool → Took (takeNested row st s n) r cells′ pool′
 unfolding nestedIn takeNested withLoops withItem
@@ -116,13 +116,13 @@ nested-on row st s (now ls) nested r cells pool cells′ pool′ e k t = k (with
 nested-on row st s (broken f) nested r cells pool cells′ pool′ e k t = absurd (never (nested .step) e t)
 
 -- what the code has found of the statement
-record Known (w : Drafting) (cell : Cell) (asked : Needs) (size : ℕ) (st : Draft) (s : Statement) : Type 0 where
+record Known (w : Work) (cell : Cell) (asked : Needs) (size : ℕ) (st : Draft) (s : Statement) : Type 0 where
   used : w .heads .used ≡ st .used
   sized : size ≡ length (dataOf s)
   shaped : shapeIn asked ≡ shape s
   placed : placedAt (w .heads .used) cell asked ≡ cellFor (st .used) s
 
-module _ (row : ℕ) (cell : Cell) (asked : Needs) (lent : List ℕ) (w : Drafting) (cells pool : List ℕ) {size : ℕ} (asks : asked ≡ needsOf cell) (counts : size ≡ countIn asked) where
+module _ (row : ℕ) (cell : Cell) (asked : Needs) (lent : List ℕ) (w : Work) (cells pool : List ℕ) {size : ℕ} (asks : asked ≡ needsOf cell) (counts : size ≡ countIn asked) where
   known : (st : Draft) (s : Statement) → cell ≡ cellFor 0 s → IsDraft st w cells pool → Known w cell asked size st s
   unfolding headsOf
   known st s is h =
@@ -136,14 +136,14 @@ module _ (row : ℕ) (cell : Cell) (asked : Needs) (lent : List ℕ) (w : Drafti
       }
 
   -- "data over 1,024"
-  pub too-much : (r : code.Drafted) → dataLimit < w .heads .used + size → r .step ≡ Stop TooMuchData row → Writes row lent w cells pool r cells pool cell
+  pub too-much : (r : Stepped) → dataLimit < w .heads .used + size → r .step ≡ Stop TooMuchData row → Writes row lent w cells pool r cells pool cell
   unfolding takeStatement
   too-much r k e s is f st h =
       let n = known st s is h in
       rw (lt-leb (st .used + length (dataOf s)) dataLimit (omega (arith, n .used, n .sized))) e
 
-  module _ (nested : code.Drafted) (fits : w .heads .used + size ≤ dataLimit) (nests : Nests (shapeIn asked) row w nested) where
-    fitting : (st : Draft) (s : Statement) (r : code.Drafted) (cells′ pool′ : List ℕ) → Known w cell asked size st s
+  module _ (nested : Stepped) (fits : w .heads .used + size ≤ dataLimit) (nests : Nests (shapeIn asked) row w nested) where
+    fitting : (st : Draft) (s : Statement) (r : Stepped) (cells′ pool′ : List ℕ) → Known w cell asked size st s
         → Took (takeNested row st s (nest row (shape s) (st .loops))) r cells′ pool′ → Took (takeStatement row st s) r cells′ pool′
     unfolding takeStatement
     fitting st s r cells′ pool′ n t = rw (le-leb (st .used + length (dataOf s)) dataLimit (omega (arith, n .used, n .sized))) t
@@ -153,7 +153,7 @@ module _ (row : ℕ) (cell : Cell) (asked : Needs) (lent : List ℕ) (w : Drafti
         let n = known st s is h in
         fitting st s nested cells pool n (nested-stop row st s _ nested cells pool e (rw (n .shaped) at (nests .takes st cells pool h)))
 
-    pub statement-on : (r : code.Drafted) {word : ℕ} {w′ : Drafting} (cells′ pool′ : List ℕ) → nested .step ≡ Going → word ≡ coded (placedAt (w .heads .used) cell asked)
+    pub statement-on : (r : Stepped) {word : ℕ} {w′ : Work} (cells′ pool′ : List ℕ) → nested .step ≡ Going → word ≡ coded (placedAt (w .heads .used) cell asked)
         → ((st : Draft) (s : Statement) → word ≡ coded (cellFor (st .used) s) → take size lent ≡ dataOf s → IsDraft st (nested .work) cells pool → IsDraft (withItem st (st .loops) s) w′ cells′ pool′)
         → Goes r w′ → size ≤ length lent → Writes row lent w cells pool r cells′ pool′ cell
     statement-on r cells′ pool′ e x k g m s is f st h =
@@ -163,14 +163,18 @@ module _ (row : ℕ) (cell : Cell) (asked : Needs) (lent : List ℕ) (w : Drafti
         (rw (n .shaped) at (nests .takes st cells pool h)))
 
 -- room for the statement's word and its data, once the loops nest
-pub room-on : {w : Drafting} {nested : code.Drafted} {shape : Shape} {row : ℕ} (bs : List ℕ) → Nests shape row w nested → HasRoom w
-    → w .heads .used + length bs ≤ dataLimit → HasRoomFor (nested .work) bs
-room-on bs n i k = record {
-  room = rw (n .cells) (i .room);
-  some = rw (n .heads) (i .some);
-  few = rw (n .heads) (i .few);
-  data-room = rw (n .heads) k;
-}
+pub room-on : {w : Drafting} (nested : Drafted) {shape : Shape} {row : ℕ} (loops loops′ ends settings bs : List ℕ)
+    → Nests shape row (workOf w loops ends settings) (steppedTo nested loops′ ends settings) → HasRoom w → w .used + length bs ≤ dataLimit
+    → HasRoomFor (nested .work) bs
+room-on nested loops loops′ ends settings bs n i k =
+    let processes = ap (λ (x : Heads). x .processes) (n .heads) in
+    let used = ap (λ (x : Heads). x .used) (n .heads) in
+    record {
+      room = omega (arith, n .cells, i .room);
+      some = omega (arith, processes, i .some);
+      few = omega (arith, processes, i .few);
+      data-room = omega (arith, used, k);
+    }
 
 -- the data have room in the lent bytes
 pub sized : (cell : Cell) (asked : Needs) {size room : ℕ} → size ≡ countIn asked → asked ≡ needsOf cell → countIn (needsOf cell) ≤ room → size ≤ room

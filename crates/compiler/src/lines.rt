@@ -11,15 +11,20 @@ ghost use Rattle.language.specs.Lines.{dropCr};
 ghost use Rattle.language.specs.Right.{inLine};
 ghost use Rattle.language.specs.Stretch.{stretchOf};
 ghost use Rattle.language.proofs.SoundBody.{Sound};
-ghost use Rattle.compiler.specs.inside.Drafting.{scriptIn, IsDraft, Took, Ready};
+ghost use Rattle.compiler.specs.inside.Drafting.{workOf, steppedTo, scriptIn, IsDraft, Took, Ready};
 ghost use Rattle.compiler.specs.inside.Ending.{Nests};
 ghost use Rattle.compiler.specs.inside.Text.{part};
 use crate::drafting::Drafted;
 use crate::drafting::Drafting;
+use crate::drafting::Ends;
+use crate::drafting::Loops;
+use crate::drafting::Settings;
 use crate::drafting::Step;
 use crate::drafting::going;
+use crate::drafting::heads_in;
 use crate::drafting::is_comment;
 use crate::drafting::no_lines;
+use crate::drafting::no_settings;
 use crate::drafting::refusal;
 use crate::drafting::stop;
 use crate::feeds::next_feed;
@@ -30,7 +35,9 @@ use language::Cells;
 use language::Compiled;
 use language::LINE;
 use language::LINES;
+use language::LOOP_PLACES;
 use language::POOL_PLACES;
+use language::PROCESS_PLACES;
 use language::Pool;
 use language::TEXT;
 use language::Table;
@@ -46,13 +53,20 @@ fn take_line(
     line: &[u8],
     row: u32,
     work: Drafting,
+    loops: &mut Loops,
+    ends: &mut Ends,
+    settings: &mut Settings,
     lent: &mut Data,
     cells: &mut Cells,
     pool: &mut Pool,
 ) -> Drafted
     requires { ⌜ Ready work × (all inLine (now line) ≡ true) ⌝ }
-    ensures { λ r. ⌜ ((st : Draft) → IsDraft st work (now (cells .entry)) (now (pool .entry))
-        → Took (takeLine row st (now (line .entry))) r (now (cells .exit)) (now (pool .exit))) ⌝ }
+    ensures { λ r. ⌜ ((st : Draft)
+        → IsDraft st (workOf work (now (loops .entry)) (now (ends .entry)) (now (settings .entry)))
+        (now (cells .entry)) (now (pool .entry))
+        → Took (takeLine row st (now (line .entry)))
+        (steppedTo r (now (loops .exit)) (now (ends .exit)) (now (settings .exit))) (now (cells .exit))
+        (now (pool .exit))) ⌝ }
 {
     if LINE < line.len() {
         return stop(TextFault::LineTooLong, row, work);
@@ -67,7 +81,7 @@ fn take_line(
     }
     let mut next = work;
     next.counted = counted + 1;
-    crate::steps::take(said, lent, row, next, cells, pool)
+    crate::steps::take(said, lent, row, next, loops, ends, settings, cells, pool)
 }
 
 // The end of the line from one place to another without a CR at its end.
@@ -94,18 +108,27 @@ fn never() -> Compiled
 }
 
 // The end of the text. "loop open at .. the end of text", "stretch over 4,096".
-fn finish(cells: &Cells, pool: &Pool, work: Drafting) -> Compiled
-    requires { ⌜ (work .opened ≤ loopLimit) × Nests (now cells) work ⌝ }
-    ensures { λ r. ⌜ ((st : Draft) → Sound 0 st → IsDraft st work (now (cells .entry)) (now (pool .entry)) → r
+fn finish(
+    cells: &Cells,
+    pool: &Pool,
+    work: Drafting,
+    loops: &Loops,
+    ends: &Ends,
+    settings: &Settings,
+) -> Compiled
+    requires { ⌜ (work .opened ≤ loopLimit)
+        × Nests (now cells) (workOf work (now loops) (now ends) (now settings)) ⌝ }
+    ensures { λ r. ⌜ ((st : Draft) → Sound 0 st
+        → IsDraft st (workOf work (now (loops .entry)) (now (ends .entry)) (now (settings .entry)))
+        (now (cells .entry)) (now (pool .entry)) → r
         ≡ answered (finished stretchOf (scriptIn st) (st .loops))) ⌝ }
 {
     let opened = work.opened as usize;
     if 0 < opened {
-        let loops = work.loops;
         let innermost = loops[opened - 1];
         return refusal(TextFault::LoopLeftOpen, innermost);
     }
-    let heads = work.heads;
+    let heads = heads_in(work, ends, settings);
     match largest(cells, heads) {
         Measured::Largest(stretch) => {
             let table = Table {
@@ -130,6 +153,9 @@ fn take_lines(text: &[u8]) -> Compiled
     let mut cells = [0u32; CELL_PLACES];
     let mut pool = [0u8; POOL_PLACES];
     let mut lent = [0u8; ROOM];
+    let mut loops = [0u32; LOOP_PLACES];
+    let mut ends = [0u16; PROCESS_PLACES];
+    let mut settings = no_settings();
     let mut work = no_lines();
     let mut step = Step::Going;
     let mut row = 1u32;
@@ -146,7 +172,17 @@ fn take_lines(text: &[u8]) -> Compiled
         let end = next_feed(text, clear);
         let behind = without_cr(text, start, end);
         let line = &text[start..behind];
-        let taken = take_line(line, row, work, &mut lent, &mut cells, &mut pool);
+        let taken = take_line(
+            line,
+            row,
+            work,
+            &mut loops,
+            &mut ends,
+            &mut settings,
+            &mut lent,
+            &mut cells,
+            &mut pool,
+        );
         step = taken.step;
         match step {
             Step::Going => {
@@ -158,7 +194,7 @@ fn take_lines(text: &[u8]) -> Compiled
         }
     }
     match step {
-        Step::Going => finish(&cells, &pool, work),
+        Step::Going => finish(&cells, &pool, work, &loops, &ends, &settings),
         Step::Stop(fault, line) => refusal(fault, line),
     }
 }

@@ -1,5 +1,6 @@
 // What the compiler needs for a statement's cell.
 ghost use mathlib.Core.Path.{_≡_};
+ghost use lib.Dec.{eqb};
 ghost use Rattle.compiler.specs.inside.Needs.{needsOf, countIn, placedAt};
 use crate::drafting::Needs;
 use language::Cell;
@@ -29,6 +30,13 @@ pub(crate) fn count(asked: Needs) -> usize
         Needs::Logging(n) => n as usize,
         _ => 0,
     }
+}
+
+/// A setting that holds or not, as a byte.
+pub(crate) fn flag(on: bool) -> u8
+    ensures { λ r. ⌜ eqb r 1 ≡ on ⌝ }
+{
+    if on { 1 } else { 0 }
 }
 
 /// The cell with its data at a place of the pool.

@@ -1,8 +1,10 @@
--- Which lines are not counted, and the work that the first line finds. Assumes nothing: these are definitions.
+-- Which lines are not counted, and the work and the settings that the first line finds. Assumes nothing: these are definitions.
+use Prim.Native.Nat.{ℕ}
 use mathlib.Core.Bool.{Bool, true, false}
+use mathlib.Core.List.{List, _++_}
 use lib.ListN.{replicate}
 use Rattle.reader.specs.Ascii.{ascii}
-use Rattle.language.specs.Limits.{processPlaces, loopPlaces, omitPlaces}
+use Rattle.language.specs.Limits.{omitPlaces}
 use Rattle.line_values.specs.declared.Line.{Line}
 use Rattle.line_values.specs.declared.Line.the-variants.{Comment, Blank, Process, Ex, Says, Encode, Stopbits, Omit, Lfext, Faulty}
 use Rattle.compiler.specs.declared.drafting.Drafting.{Drafting}
@@ -22,23 +24,8 @@ commentLine (Faulty f) = false
 
 -- the work before the first line
 abbrev pub noLines : Drafting
-noLines =
-    record {
-      counted = 0;
-      cells = 0;
-      opened = 0;
-      loops = replicate loopPlaces 0;
-      begun = false;
-      heads =
-          record {
-            processes = 1;
-            ends = replicate processPlaces 0;
-            used = 0;
-            encodes = false;
-            encode = 0;
-            «two_stop_bits» = false;
-            omits = 0;
-            omit = replicate omitPlaces 0;
-            extension = ascii "LOG";
-          };
-    }
+noLines = record { counted = 0; cells = 0; opened = 0; begun = false; processes = 1; used = 0 }
+
+-- the settings that hold where no line sets them: the extension LOG, and nothing else
+abbrev pub noSettings : List ℕ
+noSettings = replicate 4 0 ++ ascii "LOG" ++ replicate omitPlaces 0

@@ -1,6 +1,8 @@
 -- `take_line` meets its contract: each way on is a law of `Lining`. Assumes nothing.
 use mathlib.Core.Path.{sym, _∙_}
 use borrow.Author.Needs.{needs}
+use denote.Ref.{now}
+use Rattle.compiler.proofs.Standing.{handed}
 use Rattle.compiler.proofs.Lining.{long-stop, comment-on, many-stop, counted-within, said-fits, counts-on}
 use Rattle.compiler.proofs.lines.take_line.Statement.{statement}
 use Rattle.compiler.proofs.lines.take_line.Tie as tie
@@ -25,8 +27,10 @@ returns-2 c =
     let at-comment = c .before .before in
     let at-read-line = at-comment .before in
     let at-if1 = at-read-line .before .before in
+    let args = at-if1 .before .before .args in
     comment-on _ (at-if1 .if1 .left) (at-read-line .read-line .ensures .0) _ _ _ _ _
-    (sym (at-comment .is-comment .ensures) ∙ c .before .if2 .taken) (c .going .ensures)
+    (sym (at-comment .is-comment .ensures) ∙ c .before .if2 .taken)
+    (handed (now (args .loops)) (now (args .ends)) (now (args .settings)) (c .going .ensures))
 
 cast-if3 : tie.Need-cast-if3
 cast-if3 c = search needs
@@ -48,7 +52,7 @@ add-next c = search needs
 
 take-requires : tie.Need-take-requires
 take-requires c κs =
-    let at-if3 = c .before .before .before in
+    let at-if3 = c .before .before .before .before .before .before in
     let at-read-line = at-if3 .before .before .before in
     let at-if1 = at-read-line .before .before in
     let at-entry = at-if1 .before .before in (
@@ -58,7 +62,7 @@ take-requires c κs =
 
 returns-4 : tie.Need-returns-4
 returns-4 c =
-    let at-if3 = c .before .before .before .before in
+    let at-if3 = c .before .before .before .before .before .before .before in
     let at-if2 = at-if3 .before in
     let at-comment = at-if2 .before in
     let at-read-line = at-comment .before in

@@ -1,6 +1,7 @@
 -- `nested` meets its contract, case by case. Assumes nothing.
 use borrow.Author.Needs.{needs}
 use Rattle.compiler.proofs.Asking.{other-stays}
+use Rattle.compiler.proofs.Standing.{handed}
 use Rattle.compiler.proofs.Nesting.{stays-on}
 use Rattle.compiler.proofs.steps.nested.Statement.{statement}
 use Rattle.compiler.proofs.steps.nested.Tie as tie
@@ -21,13 +22,13 @@ going-requires : tie.Need-going-requires
 going-requires c κs = search needs
 
 returns : tie.Need-returns
-returns c = rw (c .before .enum-told .given .1) (c .opening .ensures)
+returns c = rw (c .before .before .enum-told .given .1) (c .opening .ensures)
 
 returns-2 : tie.Need-returns-2
-returns-2 c = rw (c .before .enum-told2 .given .1) (c .closing .ensures)
+returns-2 c = rw (c .before .enum-told2 .given .1) (c .closing .ensures _)
 
 returns-3 : tie.Need-returns-3
-returns-3 c = rw (other-stays (c .before .before .args .asked) (c .before .match .keys3)) (stays-on _ _ (c .going .ensures))
+returns-3 c = rw (other-stays (c .before .before .args .asked) (c .before .match .keys3)) (λ ends settings. stays-on _ _ (handed _ ends settings (c .going .ensures)))
 
 pub nested-spec : {M : Type 1} → statement M
 nested-spec =

@@ -1,6 +1,8 @@
 -- `opening` meets its contract: each way on is a law of `Nesting`. Assumes nothing.
 use borrow.Author.Needs.{needs}
+use Rattle.compiler.proofs.Standing.{handed}
 use Rattle.compiler.proofs.Nesting.{opens-on, opens-stop}
+use borrow.Author.Needs.{needs}
 use Rattle.compiler.proofs.steps.opening.Statement.{statement}
 use Rattle.compiler.proofs.steps.opening.Tie as tie
 
@@ -11,13 +13,13 @@ stop-requires : tie.Need-stop-requires
 stop-requires c κs = search needs
 
 returns : tie.Need-returns
-returns c = opens-stop _ _ (c .before .if1 .taken) (c .stop .ensures)
+returns c = λ ends settings. opens-stop _ _ (c .before .if1 .taken) (handed _ ends settings (c .stop .ensures))
 
-mul-next : tie.Need-mul-next
-mul-next c = search needs
+mul-loops : tie.Need-mul-loops
+mul-loops c = search needs
 
-element-write-next : tie.Need-element-write-next
-element-write-next c = search needs
+element-write-loops : tie.Need-element-write-loops
+element-write-loops c = search needs
 
 add-next : tie.Need-add-next
 add-next c = search needs
@@ -26,7 +28,7 @@ going-requires : tie.Need-going-requires
 going-requires c κs = search needs
 
 returns-2 : tie.Need-returns-2
-returns-2 c = opens-on _ _ (c .before .before .if1 .left) (c .going .ensures)
+returns-2 c = λ ends settings. opens-on _ _ (c .before .before .if1 .left) (handed _ ends settings (c .going .ensures))
 
 pub opening-spec : {M : Type 1} → statement M
 opening-spec =
@@ -35,8 +37,8 @@ opening-spec =
     cast-at
     stop-requires
     returns
-    mul-next
-    element-write-next
+    mul-loops
+    element-write-loops
     add-next
     going-requires
     returns-2)

@@ -1,6 +1,7 @@
 -- `write` meets its contract by a law of `Writing`. Assumes nothing.
 use borrow.Author.Needs.{needs}
 use Rattle.compiler.proofs.Writing.{written-on}
+use borrow.Author.Needs.{needs}
 use Rattle.compiler.proofs.steps.write.Statement.{statement}
 use Rattle.compiler.proofs.steps.write.Tie as tie
 
@@ -28,22 +29,22 @@ mul-cells c = search needs
 element-write-cells : tie.Need-element-write-cells
 element-write-cells c = search needs
 
-mul-heads : tie.Need-mul-heads
-mul-heads c = search needs
+mul-ends : tie.Need-mul-ends
+mul-ends c = search needs
 
-element-write-heads : tie.Need-element-write-heads
-element-write-heads c = search needs
+element-write-ends : tie.Need-element-write-ends
+element-write-ends c = search needs
 
-cast-heads : tie.Need-cast-heads
-cast-heads c = search needs
+cast-next : tie.Need-cast-next
+cast-next c = search needs
 
-add-heads : tie.Need-add-heads
-add-heads c = search needs
+add-next : tie.Need-add-next
+add-next c = search needs
 
 returns : tie.Need-returns
 returns c =
     let at-entry = c .before .before .before .before .before .before in
-    λ st s e b h. rw (c .put-bytes .ensures .1) (written-on s (at-entry .pre .room) (at-entry .pre .data-room) e b h)
+    λ loops settings st s e b h. rw (c .put-bytes .ensures .1) (written-on s (at-entry .pre .room) (at-entry .pre .data-room) e b h)
 
 pub write-spec : {M : Type 1} → statement M
 write-spec =
@@ -57,8 +58,8 @@ write-spec =
     put-bytes-requires
     mul-cells
     element-write-cells
-    mul-heads
-    element-write-heads
-    cast-heads
-    add-heads
+    mul-ends
+    element-write-ends
+    cast-next
+    add-next
     returns)
