@@ -11,7 +11,7 @@ use Rattle.reader.specs.Bytes.{all}
 use Rattle.language.specs.declared.TextFault.{TextFault}
 use Rattle.language.specs.declared.TextFault.the-variants.{LineTooLong}
 use Rattle.language.specs.declared.Heads.{Heads}
-use Rattle.language.specs.Limits.{textLimit, lineLimit, linesLimit, dataLimit, processPlaces, loopPlaces}
+use Rattle.language.specs.Limits.{textLimit, lineLimit, linesLimit, dataLimit, loopLimit, processPlaces, loopPlaces}
 use Rattle.language.specs.Lines.{dropCr, linesOf}
 use Rattle.language.specs.Script.{Item, does, next, default, dataOf}
 use Rattle.language.specs.Stretch.{stretchOf}
@@ -29,6 +29,7 @@ use Rattle.compiler.specs.declared.drafting.Step.{Step}
 use Rattle.compiler.specs.declared.drafting.Step.the-variants.{Going, Stop}
 use Rattle.compiler.specs.inside.NoLines.{noLines, noSettings}
 use Rattle.compiler.specs.inside.Drafting.{Work, workOf, Stepped, scriptIn, stacked, IsDraft, Took, Ready}
+use Rattle.compiler.specs.inside.Ending.{Ended, Answered}
 use Rattle.compiler.specs.inside.Text.{part, clearFrom, EndsAt}
 use Rattle.compiler.proofs.Texts.{part-none, part-length, no-lines, in-lines, no-lf-joined, clear-fits, clear-past, feed-ends, text-ends, begins, first-lines}
 use Rattle.compiler.proofs.Writing.{never}
@@ -62,7 +63,7 @@ pub record Lined (s : List ℕ) (w : Work) (row from : ℕ) (cells pool : List �
 abbrev noWork : Work
 noWork = workOf noLines (replicate loopPlaces 0) (replicate processPlaces 0) noSettings
 
-nothing : IsDraft start noWork (replicate linesLimit 0) (replicate dataLimit 0)
+pub nothing : IsDraft start noWork (replicate linesLimit 0) (replicate dataLimit 0)
 unfolding start default wordsFrom poolOf endsFrom headsOf stacked
 nothing =
     record {
@@ -79,9 +80,9 @@ nothing =
       bytes = refl;
     }
 
-pub first : (s : List ℕ) → length s ≤ textLimit → Folding s noWork 1 0 (replicate linesLimit 0) (replicate dataLimit 0)
+pub first : (s : List ℕ) {w : Work} {cells pool : List ℕ} → length s ≤ textLimit → IsDraft start w cells pool → Folding s w 1 0 cells pool
 unfolding compiled scriptFrom resultOf
-first s h = record { st = start; sound = start-sound; stands = nothing; rows = omega arith; whole = rw (le-leb (length s) textLimit h) }
+first s h d = record { st = start; sound = start-sound; stands = d; rows = omega arith; whole = rw (le-leb (length s) textLimit h) }
 
 -- ---- what the code may count on
 
@@ -199,30 +200,22 @@ module _ {s : List ℕ} {w : Work} {row from : ℕ} {cells pool : List ℕ} wher
 
 -- ---- after the loop over the lines
 
--- all lines are taken, and the end of the text decides
-pub record Ended (s : List ℕ) (w : Work) (cells pool : List ℕ) : Type 0 where
-  pub st : Draft
-  pub sound : Sound 0 st
-  pub stands : IsDraft st w cells pool
-  pub whole : compiled s ≡ answered (finished stretchOf (scriptIn st) (st .loops))
-
--- the answer, by the step that the lines came to
-pub record Answered (s : List ℕ) (w : Work) (step : Step) (cells pool : List ℕ) : Type 0 where
-  pub none : step ≡ Going → Ended s w cells pool
-  pub some : (f : TextFault) (n : ℕ) → step ≡ Stop f n → compiled s ≡ answered (refused f n)
-
-pub all-taken : {s : List ℕ} {w w′ : Work} {step : Step} {row from : ℕ} {cells pool cells′ pool′ : List ℕ} → Folding s w row from cells pool
-    → length s ≤ from → w′ ≡ w → cells′ ≡ cells → pool′ ≡ pool → step ≡ Going → Answered s w′ step cells′ pool′
-all-taken {step = step} f h x a b e =
+pub all-taken : {s : List ℕ} {w : Work} {row from : ℕ} {cells pool : List ℕ} (r : Stepped) (cells′ pool′ : List ℕ) → Folding s w row from cells pool
+    → length s ≤ from → r .work ≡ w → cells′ ≡ cells → pool′ ≡ pool → r .step ≡ Going → Answered s r cells′ pool′
+all-taken r cells′ pool′ f h x a b e =
     record {
       none = λ _. record { st = f .st; sound = f .sound; stands = rw (x, a, b) (f .stands); whole = ended f h };
-      some = λ g n k. absurd (never step e k);
+      some = λ g n k. absurd (never (r .step) e k);
     }
 
-pub at-fault : {s : List ℕ} {w : Work} {step : Step} {cells pool : List ℕ} (f : TextFault) (n : ℕ) → step ≡ Stop f n → compiled s ≡ answered (refused f n)
-    → Answered s w step cells pool
-at-fault {step = step} f n e c =
+pub at-fault : {s : List ℕ} (r : Stepped) (cells pool : List ℕ) (f : TextFault) (n : ℕ) → r .step ≡ Stop f n → compiled s ≡ answered (refused f n)
+    → Answered s r cells pool
+at-fault r cells pool f n e c =
     record {
-      none = λ k. absurd (never step k e);
+      none = λ k. absurd (never (r .step) k e);
       some = λ g m k. let z : refused f n ≡ refused g m = cc in c ∙ ap answered z;
     }
+
+-- the loops that are left open have their places
+pub deep : {s : List ℕ} {w : Work} {cells pool : List ℕ} → Ended s w cells pool → w .opened ≤ loopLimit
+deep e = omega (arith, e .stands .opened, e .sound .deep)

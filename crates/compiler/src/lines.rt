@@ -5,14 +5,15 @@ ghost use Prim.Native.Nat.{_≤_};
 ghost use lib.ListN.{length, take};
 ghost use Rattle.reader.specs.Bytes.{all};
 ghost use Rattle.language.specs.Answer.{answered, compiled};
-ghost use Rattle.language.specs.Draft.{Draft, finished, takeLine};
+ghost use Rattle.language.specs.Draft.{Draft, start, finished, takeLine};
 ghost use Rattle.language.specs.Limits.{textLimit, loopLimit};
 ghost use Rattle.language.specs.Lines.{dropCr};
 ghost use Rattle.language.specs.Right.{inLine};
 ghost use Rattle.language.specs.Stretch.{stretchOf};
 ghost use Rattle.language.proofs.SoundBody.{Sound};
 ghost use Rattle.compiler.specs.inside.Drafting.{workOf, steppedTo, scriptIn, IsDraft, Took, Ready};
-ghost use Rattle.compiler.specs.inside.Ending.{Nests};
+ghost use Rattle.compiler.specs.inside.Ending.{Nests, Answered};
+ghost use Rattle.compiler.specs.inside.NoLines.{noLines};
 ghost use Rattle.compiler.specs.inside.Text.{part};
 use crate::drafting::Drafted;
 use crate::drafting::Drafting;
@@ -146,16 +147,20 @@ fn finish(
 }
 
 // The lines one after the other, sixteen bytes at a time up to the LF; the first fault ends both loops.
-fn take_lines(text: &[u8]) -> Compiled
-    requires { ⌜ length (now text) ≤ textLimit ⌝ }
-    ensures { λ r. ⌜ r ≡ compiled (now (text .entry)) ⌝ }
+fn take_each(
+    text: &[u8],
+    loops: &mut Loops,
+    ends: &mut Ends,
+    settings: &mut Settings,
+    cells: &mut Cells,
+    pool: &mut Pool,
+) -> Drafted
+    requires { ⌜ (length (now text) ≤ textLimit)
+        × IsDraft start (workOf noLines (now loops) (now ends) (now settings)) (now cells) (now pool) ⌝ }
+    ensures { λ r. ⌜ Answered (now (text .entry)) (steppedTo r (now (loops .exit)) (now (ends .exit))
+        (now (settings .exit))) (now (cells .exit)) (now (pool .exit)) ⌝ }
 {
-    let mut cells = [0u32; CELL_PLACES];
-    let mut pool = [0u8; POOL_PLACES];
     let mut lent = [0u8; ROOM];
-    let mut loops = [0u32; LOOP_PLACES];
-    let mut ends = [0u16; PROCESS_PLACES];
-    let mut settings = no_settings();
     let mut work = no_lines();
     let mut step = Step::Going;
     let mut row = 1u32;
@@ -176,12 +181,12 @@ fn take_lines(text: &[u8]) -> Compiled
             line,
             row,
             work,
-            &mut loops,
-            &mut ends,
-            &mut settings,
+            loops,
+            ends,
+            settings,
             &mut lent,
-            &mut cells,
-            &mut pool,
+            cells,
+            pool,
         );
         step = taken.step;
         match step {
@@ -193,8 +198,30 @@ fn take_lines(text: &[u8]) -> Compiled
             Step::Stop(_, _) => break 'lines,
         }
     }
+    Drafted { step, work }
+}
+
+// The lines and what they come to, in arrays that begin as zeros.
+fn take_lines(text: &[u8]) -> Compiled
+    requires { ⌜ length (now text) ≤ textLimit ⌝ }
+    ensures { λ r. ⌜ r ≡ compiled (now (text .entry)) ⌝ }
+{
+    let mut cells = [0u32; CELL_PLACES];
+    let mut pool = [0u8; POOL_PLACES];
+    let mut loops = [0u32; LOOP_PLACES];
+    let mut ends = [0u16; PROCESS_PLACES];
+    let mut settings = no_settings();
+    let taken = take_each(
+        text,
+        &mut loops,
+        &mut ends,
+        &mut settings,
+        &mut cells,
+        &mut pool,
+    );
+    let step = taken.step;
     match step {
-        Step::Going => finish(&cells, &pool, work, &loops, &ends, &settings),
+        Step::Going => finish(&cells, &pool, taken.work, &loops, &ends, &settings),
         Step::Stop(fault, line) => refusal(fault, line),
     }
 }
