@@ -1,8 +1,8 @@
--- `benchmark::compile_often` ends: what is left falls. Assumes nothing.
+-- `benchmark::tables::compile_often` ends: what is left falls. Assumes nothing.
 use native.Mathlib.Omega.{arith}
 use borrow.Author.Needs.{needs}
-use Rattle.benchmark.proofs.compile_often.Statement.{statement}
-use Rattle.benchmark.proofs.compile_often.Tie as tie
+use Rattle.benchmark.proofs.tables.compile_often.Statement.{statement}
+use Rattle.benchmark.proofs.tables.compile_often.Tie as tie
 
 abbrev Inv-loop : tie.InvT-loop
 Inv-loop text count last₀ left₀ last left = Unit {0}

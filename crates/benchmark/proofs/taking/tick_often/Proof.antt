@@ -1,26 +1,30 @@
--- `benchmark::tick_often` ends: what is left falls. Assumes nothing.
+-- `benchmark::taking::tick_often` ends: what is left falls. Assumes nothing.
+use Prim.Native.Nat.{_-_}
 use native.Mathlib.Omega.{arith}
 use borrow.Author.Needs.{needs}
-use Rattle.benchmark.proofs.tick_often.Statement.{statement}
-use Rattle.benchmark.proofs.tick_often.Tie as tie
+use Rattle.benchmark.proofs.taking.tick_often.Statement.{statement}
+use Rattle.benchmark.proofs.taking.tick_often.Tie as tie
 
 abbrev Inv-loop : tie.InvT-loop
-Inv-loop count state₀ left₀ sum₀ state left sum = Unit {0}
+Inv-loop count state₀ sum₀ k₀ state sum k = Unit {0}
 
 abbrev μ-loop : tie.MeasureT-loop
-μ-loop count state₀ left₀ sum₀ state left sum = left
+μ-loop count state₀ sum₀ k₀ state sum k = count - k
 
 loop-holds : tie.Need-loop-holds Inv-loop μ-loop
 loop-holds c = search needs
 
-sub-left : tie.Need-sub-left Inv-loop μ-loop
-sub-left c = search needs
+tick-requires : tie.Need-tick-requires Inv-loop μ-loop
+tick-requires c κs = search needs
 
-do-tick-requires : tie.Need-do-tick-requires Inv-loop μ-loop
-do-tick-requires c κs = search needs
+one-requires : tie.Need-one-requires Inv-loop μ-loop
+one-requires c κs = search needs
 
 wrapping-add-u64-requires : tie.Need-wrapping-add-u64-requires Inv-loop μ-loop
 wrapping-add-u64-requires c κs = search needs
+
+add-k : tie.Need-add-k Inv-loop μ-loop
+add-k c = search needs
 
 loop-less : tie.Need-loop-less Inv-loop μ-loop
 loop-less c = omega arith
@@ -38,9 +42,10 @@ tick-often-spec =
     Inv-loop
     μ-loop
     loop-holds
-    sub-left
-    do-tick-requires
+    tick-requires
+    one-requires
     wrapping-add-u64-requires
+    add-k
     loop-less
     loop-again
     returns)
