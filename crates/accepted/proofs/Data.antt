@@ -1,5 +1,5 @@
 -- What the tests of data decide. Assumes nothing.
-use Prim.Native.Nat.{ℕ, _+_, _-_, _*_, _≤_, _<_}
+use Prim.Native.Nat.{ℕ, suc, _+_, _-_, _*_, _≤_, _<_}
 use mathlib.Core.Path.{_≡_, sym, ap, _∙_}
 use mathlib.Core.Bool.{Bool, true, false, _&&_}
 use mathlib.Core.List.{List}
@@ -8,6 +8,7 @@ use lib.ListN.{length, take, drop}
 use borrow.Author.Tests.{eq-eqb, ne-eqb, le-leb, lt-leb}
 use Rattle.reader.specs.Bytes.{all}
 use Rattle.language.specs.declared.Span.{Span}
+use Rattle.language.specs.Listing.{lastInOne}
 use Rattle.language.specs.Right.{isByte, inLine, dataRight}
 use Rattle.language.specs.Table.{dataAt}
 use Rattle.accepted.specs.declared.Fit.the-variants.{To, Not}
@@ -16,16 +17,24 @@ use Rattle.accepted.specs.inside.EndsFit.{reaches}
 
 module _ (room : ℕ) (bs : List ℕ) (bytes : all isByte bs ≡ true) where
   pub data-long : room < length bs → false ≡ dataRight room bs
-  unfolding dataRight
-  data-long h = let d : room < length bs * 2 = omega arith in simp (bytes, lt-leb (length bs * 2) room d, lt-leb (length bs) room h)
+  unfolding dataRight lastInOne
+  data-long h =
+      let d : room < length bs * 2 = omega arith in
+      let n : length bs * 2 ≡ suc room → ⊥ = omega arith in
+      simp (bytes, lt-leb (length bs * 2) room d, ne-eqb (length bs * 2) (suc room) n, lt-leb (length bs) room h)
 
   pub data-hex : length bs * 2 ≤ room → true ≡ dataRight room bs
   unfolding dataRight
   data-hex h = simp (bytes, le-leb (length bs * 2) room h)
 
-  pub data-text : length bs ≤ room → room < length bs * 2 → all inLine bs ≡ dataRight room bs
-  unfolding dataRight
-  data-text h k = simp (bytes, lt-leb (length bs * 2) room k, le-leb (length bs) room h)
+  module _ {t : Bool} (told : t ≡ lastInOne room bs) (k : room < length bs * 2) where
+    pub data-short : t ≡ true → true ≡ dataRight room bs
+    unfolding dataRight
+    data-short e = simp (bytes, lt-leb (length bs * 2) room k, sym told ∙ e)
+
+    pub data-text : t ≡ false → length bs ≤ room → all inLine bs ≡ dataRight room bs
+    unfolding dataRight
+    data-text e h = simp (bytes, lt-leb (length bs * 2) room k, sym told ∙ e, le-leb (length bs) room h)
 
 -- ---- data that begin at a place, and are right
 

@@ -1,5 +1,5 @@
 -- Tables that no accepted script has, computed, beside one that a script has. Assumes nothing.
-use Prim.Native.Nat.{ℕ}
+use Prim.Native.Nat.{ℕ, _+_, _-_}
 use mathlib.Core.Path.{_≡_, refl}
 use mathlib.Core.Bool.{Bool, true, false}
 use mathlib.Core.List.{List, [], _∷_, _++_}
@@ -53,6 +53,11 @@ letters = 76 ∷ 79 ∷ 71 ∷ []
 abbrev pub nopTable : Table
 nopTable = holding nop zeros 1 1 0 0 letters
 
+-- the table of a WAIT DATA of so many bytes, an LF first and the one given last
+abbrev waiting : ℕ → ℕ → Table
+waiting count last =
+    holding ((335544320 + count) ∷ replicate 511 0) (10 ∷ (replicate (count - 2) 65 ++ last ∷ replicate (1024 - count) 0)) 1 1 count 0 letters
+
 -- a table, and whether some accepted script has it
 abbrev Tables : List (Table × Bool) → Type 0
 Tables [] = Unit {0}
@@ -78,11 +83,16 @@ tables =
     ∷ (holding nop zeros 1 1 0 0 (90 ∷ 0 ∷ 0 ∷ []), true)
     ∷ (holding nop zeros 1 1 0 0 (0 ∷ 0 ∷ 0 ∷ []), false)
     ∷ (holding nop zeros 1 1 0 0 (122 ∷ 0 ∷ 0 ∷ []), false)
+    -- 57 bytes with an LF among them; 58, the last below 10h, and not; 59
+    ∷ (waiting 57 16, true)
+    ∷ (waiting 58 15, true)
+    ∷ (waiting 58 16, false)
+    ∷ (waiting 59 15, false)
     ∷ []
 
 tables-hold : Tables tables
 unfolding printed tableRight sameTable sameHeads right.isByte right.inLine right.dataRight right.timeRight right.inRanges right.clockRight right.logRight right.right right.encodeRight right.settingsRight right.allRight right.dataIn right.nextsIn right.mayNest right.depthAfter right.nests right.allBelow right.scriptRight table.cellFor table.wordsFrom table.poolOf table.endsFrom table.headsOf table.laidOut table.statementOf table.itemsOf table.bodyFrom table.lettersOf table.settingsOf table.scriptOf table.zeroTable cell.spanNumber cell.clockNumber cell.coded cell.spanRight cell.unitRight cell.fixedRight cell.cellOf cell.decoded cell.clockFrom cell.fixedUnits
-tables-hold = (refl, (refl, (refl, (refl, (refl, (refl, (refl, (refl, (refl, (refl, (refl, (refl, (refl, tt)))))))))))))
+tables-hold = (refl, (refl, (refl, (refl, (refl, (refl, (refl, (refl, (refl, (refl, (refl, (refl, (refl, (refl, (refl, (refl, (refl, tt)))))))))))))))))
 
 pub nop-accepted : tableRight nopTable ≡ true
 nop-accepted = tables-hold .0

@@ -1,14 +1,13 @@
 -- THE TESTS DECIDE: the tests that the code goes through are the exact test of a table. Assumes nothing.
-use Prim.Native.Nat.{ℕ, zero, suc, _-_, _≤_, _<_}
+use Prim.Native.Nat.{ℕ, _-_, _≤_, _<_}
 use mathlib.Core.Path.{_≡_, refl, sym, ap, _∙_}
 use mathlib.Core.Bool.{Bool, true, false, cond}
-use mathlib.Core.List.{List, [], _∷_}
 use native.Mathlib.Omega.{arith}
 use lib.Dec.{leb, eqb}
 use lib.ListN.{length, take, drop, length-take}
 use borrow.Author.Tests.{leb-true, le-leb, lt-ltb}
 use Rattle.reader.specs.Bytes.{all}
-use Rattle.reader.proofs.Tests.{both-left, both-right, both}
+use Rattle.reader.proofs.Tests.{both-left, both-right, both, all-take}
 use Rattle.language.specs.declared.Heads.{Heads}
 use Rattle.language.specs.declared.Table.{Table}
 use Rattle.language.specs.Limits.{linesLimit, dataLimit, omitLimit, processLimit}
@@ -32,11 +31,6 @@ use Rattle.accepted.proofs.Laid.{laid-ends, laid-cells, laid-settings}
 pub record Bytes (h : Heads) : Type 0 where
   pub encode : h .encode < 256
   pub omit : all isByte (h .omit) ≡ true
-
-all-take : (n : ℕ) (l : List ℕ) → all isByte l ≡ true → all isByte (take n l) ≡ true
-all-take zero l h = refl
-all-take (suc n) [] h = refl
-all-take (suc n) (b ∷ l) h = both (isByte b) _ (both-left (isByte b) _ h) (all-take n l (both-right (isByte b) _ h))
 
 encode-right : (t : Bool) (b : ℕ) → b < 256 → encodeRight (cond t (byte b) unset) ≡ true
 unfolding encodeRight isByte
@@ -68,7 +62,7 @@ module _ (t : Table) (ty : Typed t) (by : Bytes (t .heads)) where
         let few : length (take (h .omits) (h .omit)) ≤ omitLimit =
         simp length-take (omega (arith, leb-true (h .omits) omitLimit (both-left (leb (h .omits) omitLimit) _ s₁)))
         in
-        rw (encode-right (h .encodes) (h .encode) (by .encode), all-take (h .omits) (h .omit) (by .omit), le-leb (length (take (h .omits) (h .omit))) omitLimit few)
+        rw (encode-right (h .encodes) (h .encode) (by .encode), all-take isByte (h .omits) (h .omit) (by .omit), le-leb (length (take (h .omits) (h .omit))) omitLimit few)
         (both-left (extension (lettersOf (h .extension))) _ s₃)
 
     rights : allRight (scriptOf t .body) ≡ true

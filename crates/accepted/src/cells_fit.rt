@@ -22,9 +22,10 @@ use language::Pool;
 use language::SEND_ROOM;
 use language::Span;
 use language::WAIT_ROOM;
+use language::last_digit::last_in_one;
 use reader::widths::wide;
 
-// Whether a line has room for data: in hex, or, with no LF among them, as text.
+// Whether a line has room for data: in hex, the last byte in one digit if need be, or, with no LF among them, as text.
 fn data_right(data: &[u8], room: usize) -> bool
     requires { ⌜ room ≤ lineLimit ⌝ }
     ensures { λ r. ⌜ r ≡ dataRight room (now («data» .entry)) ⌝ }
@@ -33,6 +34,9 @@ fn data_right(data: &[u8], room: usize) -> bool
         return false;
     }
     if data.len() * 2 <= room {
+        return true;
+    }
+    if last_in_one(data, room) {
         return true;
     }
     in_line(data)

@@ -50,10 +50,6 @@ after-kept at k (Whole b) {x} {y} p q e = bad-before b k y (p (before-bad b k x 
 
 pub hex-final : (xs ys : List ℕ) (half at k : ℕ) → k < at + length xs → hexGo xs half at ≡ bad k → hexGo (xs ++ ys) half at ≡ bad k
 unfolding hexGo
-hex-final [] ys half at k h e = absurd (go (ltb half 16) e)
-  where
-    go : (t : Bool) → cond t (bad at) (good []) ≡ bad k → ⊥
-    go true e = let p : at ≡ k = cc in omega arith
-    go false e = let z : _≡_ {A = ℕ} 0 1 = cc in omega arith
+hex-final [] ys half at k h e = let z : _≡_ {A = ℕ} 0 1 = cc in absurd (omega arith)
 hex-final (b ∷ rest) ys half at k h e =
     after-kept at k (stepOf half b) (hex-final rest ys 16 (at + 1) k (omega arith)) (λ d. hex-final rest ys d (at + 1) k (omega arith)) e

@@ -41,7 +41,7 @@ after-moved k at (Whole b) g q = ap (byteBefore b) (q 16) ∙ before-moved k b (
 
 pub hex-moved : (l : List ℕ) (half k at : ℕ) → hexGo l half (k + at) ≡ movedSaid k (hexGo l half at)
 unfolding hexGo movedSaid
-hex-moved [] half k at = both-moved (movedSaid k) (ltb half 16) refl refl
+hex-moved [] half k at = refl
 hex-moved (b ∷ rest) half k at =
     after-moved k at (stepOf half b) (λ h. hexGo rest h (at + 1)) (λ h. ap (hexGo rest h) (next k at) ∙ hex-moved rest h k (at + 1))
 

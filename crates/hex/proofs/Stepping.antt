@@ -18,7 +18,7 @@ use Rattle.hex.specs.declared.HexCount.the-variants.{Of, Not}
 use Rattle.hex.specs.declared.HexRead.the-variants.{Bytes, Wrong, Full}
 use Rattle.reader.proofs.Placing.{Placing, begun, renamed, fits, stored, placed}
 
-hex-end : (s : List ℕ) (half i : ℕ) → length s ≤ i → hexGo (drop i s) half i ≡ cond (ltb half 16) (bad i) (good [])
+hex-end : (s : List ℕ) (half i : ℕ) → length s ≤ i → hexGo (drop i s) half i ≡ good (cond (ltb half 16) (half ∷ []) [])
 unfolding hexGo
 hex-end s half i h = rw (drop-of-length-le s h)
 
@@ -32,11 +32,12 @@ hex-on s half i st h is = rw (add-one i, drop-cons s i 0) (simp (is, add-one))
 
 pub record Counting (s : List ℕ) (at n half i : ℕ) : Type 0 where
   pub few : n ≤ i
+  pub digit : half < 16 → n < length s
   pub whole : counted 0 (hexAt s at) ≡ counted n (hexGo (drop i s) half i)
 
 pub uncounted : {s : List ℕ} {at : ℕ} → Counting s at 0 16 at
 unfolding hexAt
-uncounted = record { few = omega arith; whole = refl }
+uncounted = record { few = omega arith; digit = λ h. absurd (omega arith); whole = refl }
 
 -- a byte in front is one more
 counted-before : (n b : ℕ) (x : Said) → counted n (byteBefore b x) ≡ counted (n + 1) x
@@ -45,7 +46,8 @@ counted-before n b (good bs) = ap Of (omega arith)
 counted-before n b (bad at) = refl
 
 module _ {s : List ℕ} {at n half i : ℕ} (w : Counting s at n half i) where
-  pub odd-end : length s ≤ i → half < 16 → counted 0 (hexAt s at) ≡ Not i
+  -- the data end after one digit of a pair, or after a whole byte
+  pub odd-end : length s ≤ i → half < 16 → counted 0 (hexAt s at) ≡ Of (n + 1)
   unfolding counted
   odd-end h k = w .whole ∙ ap (counted n) (hex-end s half i h) ∙ simp (lt-ltb _ _ k)
 
@@ -63,13 +65,13 @@ module _ {s : List ℕ} {at n half i : ℕ} (w : Counting s at n half i) where
   refused h is = from-step h is
 
   pub skipped : i < length s → Skip ≡ stepOf half (getD s i 0) → Counting s at n 16 (i + 1)
-  skipped h is = record { few = omega (arith, w .few); whole = from-step h is }
+  skipped h is = record { few = omega (arith, w .few); digit = λ k. absurd (omega arith); whole = from-step h is }
 
   pub paired : {d : ℕ} → i < length s → First d ≡ stepOf half (getD s i 0) → Counting s at n d (i + 1)
-  paired h is = record { few = omega (arith, w .few); whole = from-step h is }
+  paired h is = record { few = omega (arith, w .few); digit = λ k. omega (arith, w .few); whole = from-step h is }
 
   pub one-more : {b : ℕ} → i < length s → Whole b ≡ stepOf half (getD s i 0) → Counting s at (n + 1) 16 (i + 1)
-  one-more {b} h is = record { few = omega (arith, w .few); whole = from-step h is ∙ counted-before n b _ }
+  one-more {b} h is = record { few = omega (arith, w .few); digit = λ k. absurd (omega arith); whole = from-step h is ∙ counted-before n b _ }
 
 -- ---- good data that are being written: the bytes from `i` on, after `half`, are good, and are what is still to be written
 
@@ -93,14 +95,24 @@ unfolding byteBefore saidBytes
 bytes-front b (good bs) e = refl
 bytes-front b (bad at) e = cc
 
-bytes-end : (t : Bool) (i : ℕ) → saidBytes (cond t (bad i) (good [])) ≡ []
-unfolding saidBytes
-bytes-end true i = refl
-bytes-end false i = refl
-
 module _ {s d₀ : List ℕ} {to : ℕ} {bs d : List ℕ} {place half i : ℕ} (w : Writing s d₀ to bs d place half i) where
-  pub all-written : length s ≤ i → d ≡ sets d₀ to bs
-  all-written h = placed (renamed (ap saidBytes (hex-end s half i h) ∙ bytes-end (ltb half 16) i) (w .placing))
+  -- the data end: one digit of a pair is still to be written, or nothing
+  at-end : length s ≤ i → Placing d₀ to bs d place (cond (ltb half 16) (half ∷ []) [])
+  unfolding saidBytes
+  at-end h = renamed (ap saidBytes (hex-end s half i h)) (w .placing)
+
+  module _ (h : length s ≤ i) (k : half < 16) where
+    one-left : Placing d₀ to bs d place (half ∷ [])
+    one-left = rw (lt-ltb half 16 k) at (at-end h)
+
+    pub room-for-digit : place < length d
+    room-for-digit = fits one-left
+
+    pub digit-written : set d place half ≡ sets d₀ to bs
+    digit-written = placed (stored one-left)
+
+  pub all-written : length s ≤ i → 16 ≤ half → d ≡ sets d₀ to bs
+  all-written h k = placed (rw (le-ltb half 16 k) at (at-end h))
 
   -- good data have no byte that is refused
   pub none-refused : i < length s → Refuse ≡ stepOf half (getD s i 0) → d ≡ sets d₀ to bs

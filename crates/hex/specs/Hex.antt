@@ -1,5 +1,5 @@
--- Hex data. "`:` sends hex bytes, digits of either case, spaces and tabs as separators, a run of digits cut in twos; a run of odd
--- length is refused (house reading)."
+-- Hex data. "`:` sends hex bytes, digits of either case, spaces and tabs as separators, a run of digits cut in twos"; and No. 5: "a lone
+-- digit between separators as a byte"; "A longer run is cut in twos and an odd last digit is a byte."
 use Prim.Native.Nat.{ℕ, _+_, _*_}
 use mathlib.Core.Bool.{cond}
 use mathlib.Core.List.{List, [], _∷_}
@@ -21,12 +21,12 @@ pub data Said : Type 0 where
   good : List ℕ → Said
   bad : ℕ → Said
 
--- what a byte does after `half`, the first digit of a pair, or 16 where no pair is begun
+-- what a byte does after `half`, the first digit of a pair, or 16 where no pair is begun: a separator leaves that digit a byte
 unfoldable pub stepOf : ℕ → ℕ → HexStep
 stepOf half b =
     cond (ltb (digitOf b) 16)
     (cond (ltb half 16) (Whole (half * 16 + digitOf b)) (First (digitOf b)))
-    (cond (isBlank b) (cond (ltb half 16) Refuse Skip) Refuse)
+    (cond (isBlank b) (cond (ltb half 16) (Whole half) Skip) Refuse)
 
 -- a byte in front of what the rest says
 unfoldable pub byteBefore : ℕ → Said → Said
@@ -40,9 +40,9 @@ afterStep at Skip next paired = next
 afterStep at (First h) next paired = paired h
 afterStep at (Whole b) next paired = byteBefore b next
 
--- the bytes left, from the place `at`, after `half`
+-- the bytes left, from the place `at`, after `half`: "an odd last digit is a byte"
 unfoldable pub hexGo : List ℕ → ℕ → ℕ → Said
-hexGo [] half at = cond (ltb half 16) (bad at) (good [])
+hexGo [] half at = good (cond (ltb half 16) (half ∷ []) [])
 hexGo (b ∷ rest) half at = afterStep at (stepOf half b) (hexGo rest 16 (at + 1)) (λ h. hexGo rest h (at + 1))
 
 -- the hex data from a place on to the end

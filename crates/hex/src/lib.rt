@@ -10,7 +10,7 @@ use reader::bytes::blank;
 use reader::bytes::digit;
 use reader::has_room;
 
-// What a byte of hex data does: it cannot be taken, it parts, it begins a pair, or it makes a whole byte.
+// What a byte of hex data does: it cannot be taken, it parts, it begins a pair, or with it a byte is whole.
 pub enum HexStep {
     Refuse,
     Skip,
@@ -31,7 +31,7 @@ pub enum HexRead {
     Full,
 }
 
-// What a byte does after `half`, the first digit of a pair, or 16 where no pair is begun.
+// What a byte does after `half`, the first digit of a pair, or 16 where no pair is begun: a separator leaves that digit a byte.
 fn hex_step(half: u8, b: u8) -> HexStep
     ensures { λ r. ⌜ r ≡ stepOf half b ⌝ }
 {
@@ -44,7 +44,7 @@ fn hex_step(half: u8, b: u8) -> HexStep
     }
     if blank(b) {
         if half < 16 {
-            return HexStep::Refuse;
+            return HexStep::Whole(half);
         }
         return HexStep::Skip;
     }
@@ -78,7 +78,7 @@ pub fn hex_count(s: &[u8], at: usize) -> HexCount
         i = next;
     }
     if half < 16 {
-        return HexCount::Not(i);
+        return HexCount::Of(n + 1);
     }
     HexCount::Of(n)
 }
@@ -111,6 +111,9 @@ fn hex_write(s: &[u8], at: usize, dst: &mut [u8], to: usize)
             }
         }
         i = next;
+    }
+    if half < 16 {
+        dst[place] = half;
     }
 }
 

@@ -23,14 +23,13 @@ use Rattle.reader.proofs.Solid.{solid-append}
 use Rattle.words.proofs.Solid.{argument-solid}
 use Rattle.writer.proofs.Decimals.{decimal-length, decimal-some, decimal-few, decimal-low, decimal-solid}
 use Rattle.writer.proofs.Back.{Stops, number-back}
-use Rattle.language.proofs.Hexes.{hex-back}
+use Rattle.language.proofs.Hexes.{hex-said, short-said}
 use Rattle.language.specs.Limits.{sendRoom, waitRoom, logRoom}
 use Rattle.language.specs.Clock.{clockOf, clockText}
 use Rattle.language.specs.Script.{Statement, send, loop, end, waitTime, waitData, waitByte, waitClock, waitSignal, rts, log, fchange, pause, resume, nop, says}
 use Rattle.language.specs.Meaning.{bare, numberSays, number, loopOf, byteOf, timeIn, timeBy, timeOf, clockSays, markedData, dataSays, sendSays, rtsOf, signs, logOf, lookup, signal, waits, waitOf, names, named, meaning}
-use Rattle.language.specs.Listing.{inHex, dataText, countText, timeText, onText, signalText, logText, lineFor}
+use Rattle.language.specs.Listing.{inHex, lastInOne, shortHex, dataText, countText, timeText, onText, signalText, logText, lineFor}
 use Rattle.language.specs.Right.{isByte, dataRight, timeRight, clockRight, logRight, right}
-use Rattle.language.proofs.Bytes.{bytes-are}
 use Rattle.language.proofs.Clocks.{clock-back, clock-solid}
 
 -- one name for what the choice of a reader opens: to unfold it is to unfold what its own line names
@@ -155,25 +154,24 @@ clock-said : (vs : List ℕ) → clockRight vs ≡ true → meaning (lineFor (wa
 unfolding lineFor clockSays
 clock-said vs h = clock-line (clockText vs) ∙ rw (argument-solid (clockText vs) (clock-solid vs h), clock-back vs h)
 
-pub hex-said : (bs : List ℕ) → all isByte bs ≡ true → hexAt (hexText bs) 0 ≡ good bs
-unfolding hexAt
-hex-said bs h = hex-back bs 0 (bytes-are bs h)
-
 send-back : (bs : List ℕ) → all isByte bs ≡ true → meaning (lineFor (send bs)) ≡ says (send bs)
 unfolding lineFor dataText meaning sendSays
-send-back bs h = go (inHex sendRoom bs)
+send-back bs h = go (lastInOne sendRoom bs) (inHex sendRoom bs) refl
   where
-    go : (t : Bool) → meaning (cond t (58 ∷ hexText bs) (47 ∷ bs)) ≡ says (send bs)
-    go true = rw (hex-said bs h)
-    go false = refl
+    go : (o t : Bool) → lastInOne sendRoom bs ≡ o → meaning (cond o (58 ∷ shortHex bs) (cond t (58 ∷ hexText bs) (47 ∷ bs))) ≡ says (send bs)
+    go true t e = rw (short-said sendRoom bs e h)
+    go false true e = rw (hex-said bs h)
+    go false false e = refl
 
 data-back : (b : ℕ) (bs : List ℕ) → all isByte (b ∷ bs) ≡ true → meaning (lineFor (waitData (b ∷ bs))) ≡ says (waitData (b ∷ bs))
 unfolding lineFor dataText dataSays
-data-back b bs h = go (inHex waitRoom (b ∷ bs))
+data-back b bs h = go (lastInOne waitRoom (b ∷ bs)) (inHex waitRoom (b ∷ bs)) refl
   where
-    go : (t : Bool) → meaning (ascii "#WAIT DATA " ++ cond t (58 ∷ hexText (b ∷ bs)) (47 ∷ b ∷ bs)) ≡ says (waitData (b ∷ bs))
-    go true = hex-line (hexText (b ∷ bs)) ∙ rw (hex-said (b ∷ bs) h)
-    go false = text-line (b ∷ bs)
+    go : (o t : Bool) → lastInOne waitRoom (b ∷ bs) ≡ o
+        → meaning (ascii "#WAIT DATA " ++ cond o (58 ∷ shortHex (b ∷ bs)) (cond t (58 ∷ hexText (b ∷ bs)) (47 ∷ b ∷ bs))) ≡ says (waitData (b ∷ bs))
+    go true t e = hex-line (shortHex (b ∷ bs)) ∙ rw (short-said waitRoom (b ∷ bs) e h)
+    go false true e = hex-line (hexText (b ∷ bs)) ∙ rw (hex-said (b ∷ bs) h)
+    go false false e = text-line (b ∷ bs)
 
 log-back : (text : List ℕ) → signs text false ≡ true → meaning (lineFor (log text)) ≡ says (log text)
 unfolding lineFor logText logOf

@@ -40,9 +40,15 @@ examples =
     ∷ gives ":207e" 1 "/ ~\r\n"
     ∷ gives ":7f" 1 ":7F\r\n"
     ∷ gives ":1f" 1 ":1F\r\n"
-    ∷ fails ":1 2 34" 4 1
-    ∷ fails ":414" 4 1
+    -- No. 5: "a lone digit between separators as a byte"; "A longer run is cut in twos and an odd last digit is a byte"
+    ∷ gives ":1 2 34" 1 ":010234\r\n"
+    ∷ gives ":414" 1 ":4104\r\n"
+    ∷ gives ":4" 1 ":04\r\n"
+    ∷ gives ": 4 " 1 ":04\r\n"
+    ∷ gives ":04" 1 ":04\r\n"
+    ∷ gives ":1\t1 1" 1 ":010101\r\n"
     ∷ fails ":4G" 4 1
+    ∷ fails ":41 G" 4 1
     -- `#LOOP n`, n 0 to 60000; `EVER`, 0 or nothing is forever; `#END`
     ∷ gives "#LOOP 60000\n#WAIT BYTE\n#END" 1 "#LOOP 60000\r\n#WAIT BYTE 1\r\n#END\r\n"
     ∷ gives "#LOOP EVER\n#WAIT BYTE\n#END" 1 "#LOOP EVER\r\n#WAIT BYTE 1\r\n#END\r\n"
@@ -70,6 +76,14 @@ examples =
     -- `#WAIT DATA` with data, not empty; the listing keeps its lines apart
     ∷ gives "#WAIT DATA /ABC\n; between\n#WAIT DATA :58 59 5a\n" 0 "#WAIT DATA /ABC\r\n#WAIT DATA /XYZ\r\n"
     ∷ gives "#WAIT DATA :0D0A" 0 "#WAIT DATA :0D0A\r\n"
+    ∷ gives "#WAIT DATA :1" 0 "#WAIT DATA :01\r\n"
+    -- No. 5: "a WAIT DATA line can now hold 58 bytes, the last below 10h", and is listed in hex; the 58th is 9, then 0Fh with an LF among the others, then 10h, then `A`; 57 bytes; 58 in two digits each
+    ∷ gives "#WAIT DATA /AAAAAAAAAAAAAAAAAAAAAAAAAAAAAAAAAAAAAAAAAAAAAAAAAAAAAAAAA\t" 0 "#WAIT DATA :4141414141414141414141414141414141414141414141414141414141414141414141414141414141414141414141414141414141414141419\r\n"
+    ∷ gives "#WAIT DATA :0a4141414141414141414141414141414141414141414141414141414141414141414141414141414141414141414141414141414141414141f" 0 "#WAIT DATA :0A4141414141414141414141414141414141414141414141414141414141414141414141414141414141414141414141414141414141414141F\r\n"
+    ∷ gives "#WAIT DATA /AAAAAAAAAAAAAAAAAAAAAAAAAAAAAAAAAAAAAAAAAAAAAAAAAAAAAAAAA\u{10}" 0 "#WAIT DATA /AAAAAAAAAAAAAAAAAAAAAAAAAAAAAAAAAAAAAAAAAAAAAAAAAAAAAAAAA\u{10}\r\n"
+    ∷ gives "#WAIT DATA /AAAAAAAAAAAAAAAAAAAAAAAAAAAAAAAAAAAAAAAAAAAAAAAAAAAAAAAAAA" 0 "#WAIT DATA /AAAAAAAAAAAAAAAAAAAAAAAAAAAAAAAAAAAAAAAAAAAAAAAAAAAAAAAAAA\r\n"
+    ∷ gives "#WAIT DATA :0a414141414141414141414141414141414141414141414141414141414141414141414141414141414141414141414141414141414141411" 0 "#WAIT DATA :0A4141414141414141414141414141414141414141414141414141414141414141414141414141414141414141414141414141414141414101\r\n"
+    ∷ fails "#WAIT DATA :0a41414141414141414141414141414141414141414141414141414141414141414141414141414141414141414141414141414141414141410f" 1 1
     ∷ fails "#WAIT DATA" 4 1
     ∷ fails "#WAIT DATA /" 4 1
     ∷ fails "#WAIT DATA :" 4 1
@@ -149,6 +163,7 @@ examples =
     ∷ fails "#f:EX1 OUT" 4 1
     ∷ fails "#f:EX5 IN" 3 1
     ∷ gives "#f:OMIT /AB\n#f:OMIT :0d\n#f:OMIT /\n" 0 "#f:OMIT :41420D\r\n"
+    ∷ gives "#f:OMIT :1 23 4" 0 "#f:OMIT :012304\r\n"
     ∷ fails "#f:OMIT AB" 4 1
     ∷ fails "#f:OMIT /0123456789A" 10 1
     ∷ gives "#f:LFEXT a1" 0 "#f:LFEXT A1\r\n"
@@ -174,4 +189,4 @@ examples =
 
 pub agree : All examples
 unfolding printed
-agree = (refl, (refl, (refl, (refl, (refl, (refl, (refl, (refl, (refl, (refl, (refl, (refl, (refl, (refl, (refl, (refl, (refl, (refl, (refl, (refl, (refl, (refl, (refl, (refl, (refl, (refl, (refl, (refl, (refl, (refl, (refl, (refl, (refl, (refl, (refl, (refl, (refl, (refl, (refl, (refl, (refl, (refl, (refl, (refl, (refl, (refl, (refl, (refl, (refl, (refl, (refl, (refl, (refl, (refl, (refl, (refl, (refl, (refl, (refl, (refl, (refl, (refl, (refl, (refl, (refl, (refl, (refl, (refl, (refl, (refl, (refl, (refl, (refl, (refl, (refl, (refl, (refl, (refl, (refl, (refl, (refl, (refl, (refl, (refl, (refl, (refl, (refl, (refl, (refl, (refl, (refl, (refl, (refl, (refl, (refl, (refl, (refl, (refl, (refl, (refl, (refl, (refl, (refl, (refl, (refl, (refl, (refl, (refl, (refl, (refl, (refl, (refl, (refl, (refl, (refl, (refl, (refl, (refl, (refl, (refl, (refl, (refl, (refl, (refl, (refl, (refl, (refl, (refl, (refl, (refl, (refl, (refl, tt))))))))))))))))))))))))))))))))))))))))))))))))))))))))))))))))))))))))))))))))))))))))))))))))))))))))))))))))))))))))))))))))))))
+agree = (refl, (refl, (refl, (refl, (refl, (refl, (refl, (refl, (refl, (refl, (refl, (refl, (refl, (refl, (refl, (refl, (refl, (refl, (refl, (refl, (refl, (refl, (refl, (refl, (refl, (refl, (refl, (refl, (refl, (refl, (refl, (refl, (refl, (refl, (refl, (refl, (refl, (refl, (refl, (refl, (refl, (refl, (refl, (refl, (refl, (refl, (refl, (refl, (refl, (refl, (refl, (refl, (refl, (refl, (refl, (refl, (refl, (refl, (refl, (refl, (refl, (refl, (refl, (refl, (refl, (refl, (refl, (refl, (refl, (refl, (refl, (refl, (refl, (refl, (refl, (refl, (refl, (refl, (refl, (refl, (refl, (refl, (refl, (refl, (refl, (refl, (refl, (refl, (refl, (refl, (refl, (refl, (refl, (refl, (refl, (refl, (refl, (refl, (refl, (refl, (refl, (refl, (refl, (refl, (refl, (refl, (refl, (refl, (refl, (refl, (refl, (refl, (refl, (refl, (refl, (refl, (refl, (refl, (refl, (refl, (refl, (refl, (refl, (refl, (refl, (refl, (refl, (refl, (refl, (refl, (refl, (refl, (refl, (refl, (refl, (refl, (refl, (refl, (refl, (refl, (refl, (refl, (refl, (refl, (refl, tt)))))))))))))))))))))))))))))))))))))))))))))))))))))))))))))))))))))))))))))))))))))))))))))))))))))))))))))))))))))))))))))))))))))))))))))))))

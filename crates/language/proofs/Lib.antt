@@ -10,6 +10,7 @@ pub mod Hexes
 pub mod Back
 pub mod Cutting
 pub mod Room
+pub mod LastDigit
 pub mod Settings
 pub mod Folding
 pub mod Good

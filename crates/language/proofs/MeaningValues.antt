@@ -6,7 +6,7 @@ use mathlib.Core.List.{List, [], _∷_}
 use native.Mathlib.Omega.{arith}
 use lib.Dec.{leb, eqb}
 use lib.ListN.{length, drop}
-use borrow.Author.Tests.{leb-true, lt-ltb, le-leb, eq-eqb}
+use borrow.Author.Tests.{leb-true, leb-false, lt-ltb, le-leb, eq-eqb}
 use Rattle.reader.specs.Ascii.{ascii}
 use Rattle.reader.specs.Bytes.{all, same}
 use Rattle.numbers.specs.Number.{numberAt}
@@ -20,8 +20,10 @@ use Rattle.language.specs.Limits.{lineLimit, sendRoom, waitRoom, logRoom
 use Rattle.language.specs.inside.Right.{omitRoom, meaningRight}
 use Rattle.language.specs.Script.{Statement, loop, waitByte, log, Meaning, setEx, says, setEncode, setLfext, fault}
 use Rattle.language.specs.Meaning.{checked, numberSays, number, loopOf, byteOf, timeIn, timeBy, timeOf, clockSays, markedData, dataSays, sendSays, omitSays, rtsOf, signs, logOf, encodeHex, encodeByte, encodeOf, stopbitsOf, raise, extension, lfextOf, exIn}
+use Rattle.language.specs.Listing.{lastInOne}
 use Rattle.language.specs.Right.{isByte, inLine, dataRight, timeRight, clockRight, logRight, right}
 use Rattle.language.proofs.Bytes.{byte-is, line-bytes}
+use Rattle.language.proofs.Hexes.{in-one}
 use Rattle.language.proofs.Reading.{When, Reads, Bytes, number-reads, hex-data-right, hex-byte-reads}
 
 -- nothing.
@@ -89,11 +91,18 @@ time-ok a = go (numberAt 5 60000 a 0) (number-reads 5 60000 a 0)
 -- text, and hex, that a line has room for
 pub text-right : (room : ℕ) (bs : List ℕ) → all inLine bs ≡ true → length bs ≤ room → dataRight room bs ≡ true
 unfolding dataRight
-text-right room bs e h = rw (line-bytes bs e, e, le-leb (length bs) room h) (or-true (leb (length bs * 2) room))
+text-right room bs e h = rw (line-bytes bs e, e, le-leb (length bs) room h, or-true (lastInOne room bs)) (or-true (leb (length bs * 2) room))
 
 pub hex-fits : (n room : ℕ) (x : Said) → n ≤ room → When (Bytes n) x → When (λ bs. dataRight room bs ≡ true) x
 unfolding dataRight
-hex-fits n room (good bs) h r = let k : length bs * 2 ≤ room = omega (arith, r .few) in rw (r .small, le-leb (length bs * 2) room k)
+hex-fits n room (good bs) h r = rw (r .small) (go (leb (length bs * 2) room) refl)
+  where
+    go : (t : Bool) → leb (length bs * 2) room ≡ t → (t || (lastInOne room bs || (leb (length bs) room && all inLine bs))) ≡ true
+    go true e = refl
+    go false e =
+        let over : room < length bs * 2 = leb-false (length bs * 2) room e in
+        let k : length bs * 2 ≡ suc room = omega (arith, r .few) in
+        rw (in-one room bs k (r .last (omega (arith, r .few))))
 hex-fits n room (bad at) h r = tt
 
 -- a part of a line: its bytes, and how many bytes stand before it at least

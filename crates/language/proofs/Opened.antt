@@ -17,7 +17,7 @@ use Rattle.language.specs.Script.{default, inFirst, processes, shape, da
 use Rattle.language.specs.Meaning.{bare, numberSays, number, loopOf, byteOf, timeIn, timeBy, timeOf, clockSays, markedData, dataSays, sendSays, omitSays, rtsOf, isSign, signs, logOf, encodeHex, encodeByte, encodeOf, stopbitsOf, isCapital, raised, raise, extension, lfextOf, exIn, lookup, signal, waits, waitOf, names, named, meaning}
 use Rattle.language.specs.Stretch.{markOf, stretchOf, largestOf, largest}
 use Rattle.language.specs.Draft.{Result, accepted, refused, start, countLine, withSettings, withItem, nest, takeNested, takeStatement, withNext, withFirst, beginning, takeProcess, takeOmit, takeMeaning, takeCounted, isComment, takeLine, goOn, stretched, finished, fold, resultOf}
-use Rattle.language.specs.Listing.{isPlain, inHex, dataText, countText, timeText, onText, signalText, logText, lineFor, itemLine, itemLines, bodyLines, encodeLines, settingLines, listedLines, withLineEnds, listing}
+use Rattle.language.specs.Listing.{isPlain, inHex, lastInOne, shortHex, dataText, countText, timeText, onText, signalText, logText, lineFor, itemLine, itemLines, bodyLines, encodeLines, settingLines, listedLines, withLineEnds, listing}
 use Rattle.language.specs.Answer.{faultNumber, scriptFrom}
 
 -- what the program prints: the listing, with the stretch beside it; or the number of the refusal, and the line
@@ -31,5 +31,5 @@ printedBy (accepted s) = lists (largest (s .body)) (listing s)
 printedBy (refused f row) = refuses (faultNumber f) row
 
 unfoldable pub printed : List ℕ → Printed
-unfolding isBlank digitOf same skip wordOf afterWord beforeEnd trimEnd argument digitsEnded numberGo numberAt secondOf pairOf pairAt hex.byteBefore stepOf hexGo hexAt hexSecond hexByteOf hexByteAt capital hexText fixed widthGo widthOf decimal twoDigits flat.markBefore fragments join capped again looped figures dropCr inFront rawLines eachLine linesOf within valueBefore fill from clockOf inTwos clockLetter clockText default inFirst processes shape dataOf bare numberSays number loopOf byteOf timeIn timeBy timeOf clockSays markedData dataSays sendSays omitSays rtsOf isSign signs logOf encodeHex encodeByte encodeOf stopbitsOf isCapital raised raise extension lfextOf exIn lookup signal waits waitOf names named meaning markOf stretchOf largestOf largest start countLine withSettings withItem nest takeNested takeStatement withNext withFirst beginning takeProcess takeOmit takeMeaning takeCounted isComment takeLine goOn stretched finished fold resultOf isPlain inHex dataText countText timeText onText signalText logText lineFor itemLine itemLines bodyLines encodeLines settingLines listedLines withLineEnds listing faultNumber scriptFrom printedBy
+unfolding isBlank digitOf same skip wordOf afterWord beforeEnd trimEnd argument digitsEnded numberGo numberAt secondOf pairOf pairAt hex.byteBefore stepOf hexGo hexAt hexSecond hexByteOf hexByteAt capital hexText fixed widthGo widthOf decimal twoDigits flat.markBefore fragments join capped again looped figures dropCr inFront rawLines eachLine linesOf within valueBefore fill from clockOf inTwos clockLetter clockText default inFirst processes shape dataOf bare numberSays number loopOf byteOf timeIn timeBy timeOf clockSays markedData dataSays sendSays omitSays rtsOf isSign signs logOf encodeHex encodeByte encodeOf stopbitsOf isCapital raised raise extension lfextOf exIn lookup signal waits waitOf names named meaning markOf stretchOf largestOf largest start countLine withSettings withItem nest takeNested takeStatement withNext withFirst beginning takeProcess takeOmit takeMeaning takeCounted isComment takeLine goOn stretched finished fold resultOf isPlain inHex lastInOne shortHex dataText countText timeText onText signalText logText lineFor itemLine itemLines bodyLines encodeLines settingLines listedLines withLineEnds listing faultNumber scriptFrom printedBy
 printed s = printedBy (scriptFrom s)

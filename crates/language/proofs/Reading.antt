@@ -1,6 +1,6 @@
 -- What the readers answer is right: numbers within their limits, bytes below 256 and no more than the text has room for, clock
 -- values within their ranges. Assumes nothing.
-use Prim.Native.Nat.{ℕ, suc, _+_, _*_, _≤_, _<_}
+use Prim.Native.Nat.{ℕ, suc, _+_, _-_, _*_, _≤_, _<_}
 use mathlib.Core.Path.{_≡_, refl}
 use mathlib.Core.Bool.{true, cond, _&&_}
 use mathlib.Core.List.{List, [], _∷_}
@@ -17,6 +17,7 @@ use Rattle.hex.specs.declared.HexStep.{HexStep}
 use Rattle.hex.specs.declared.HexStep.the-variants.{Refuse, Skip, First, Whole}
 use Rattle.reader.proofs.Tests.{both, both-right, by-cases}
 use Rattle.language.specs.Clock.{Range, within, valueBefore, fill, from, clockOf, secondOn, minuteOn, hourOn, dayOn}
+use Rattle.language.specs.Listing.{lastOf}
 use Rattle.language.specs.Right.{isByte, inRanges, clockRight}
 use Rattle.language.proofs.Clocks.{in-length}
 
@@ -61,16 +62,34 @@ number-reads most limit l at = go-reads most limit (drop at l) 0 0 at (omega ari
 
 -- ---- hex
 
+-- two digits make a byte, and of a last one alone the high digit may be missing
 pub record Bytes (room : ℕ) (bs : List ℕ) : Type 0 where
   pub small : all isByte bs ≡ true
-  pub few : length bs * 2 ≤ room
+  pub few : length bs * 2 ≤ suc room
+  pub last : length bs * 2 ≡ suc room → lastOf bs < 16
+
+none : (room : ℕ) → Bytes room []
+none room = record { small = refl; few = omega arith; last = λ e. omega arith }
+
+lone : (h : ℕ) → h < 16 → Bytes 1 (h ∷ [])
+unfolding isByte
+lone h k = record { small = both (ltb h 256) true (lt-ltb h 256 (omega arith)) refl; few = omega arith; last = λ e. k }
+
+-- a byte in front leaves the last one where it is
+last-of : (b : ℕ) (bs : List ℕ) → 0 < length bs → lastOf (b ∷ bs) ≡ lastOf bs
+last-of b bs h = let e : length (b ∷ bs) - 1 ≡ suc (length bs - 1) = omega arith in rw e
 
 one-more : (room b : ℕ) (bs : List ℕ) → b < 256 → Bytes room bs → Bytes (2 + room) (b ∷ bs)
 unfolding isByte
-one-more room b bs h r = record { small = both (ltb b 256) (all isByte bs) (lt-ltb b 256 h) (r .small); few = omega (arith, r .few) }
+one-more room b bs h r =
+    record {
+      small = both (ltb b 256) (all isByte bs) (lt-ltb b 256 h) (r .small);
+      few = omega (arith, r .few);
+      last = λ e. rw (last-of b bs (omega arith)) (r .last (omega arith));
+    }
 
 weaker : {room more : ℕ} (x : Said) → room ≤ more → When (Bytes room) x → When (Bytes more) x
-weaker (good bs) h r = record { small = r .small; few = omega (arith, r .few) }
+weaker (good bs) h r = record { small = r .small; few = omega (arith, r .few); last = λ e. r .last (omega (arith, r .few)) }
 weaker (bad at) h r = tt
 
 -- a digit that waits for its second counts for one
@@ -80,7 +99,8 @@ waiting half = cond (ltb half 16) 1 0
 hex-right : (l : List ℕ) (half at : ℕ) → When (Bytes (waiting half + length l)) (hexGo l half at)
 unfolding hexGo stepOf
 hex-right [] half at =
-    by-cases (When (Bytes (waiting half + 0))) (ltb half 16) (bad at) (good []) (λ e. tt) (λ e. record { small = refl; few = omega arith })
+    by-cases (Bytes (waiting half + 0)) (ltb half 16) (half ∷ []) []
+    (λ e. rw e (lone half (ltb-true half 16 e))) (λ e. none (waiting half + 0))
 hex-right (b ∷ l) half at =
     let d : ℕ = digitOf b in
     let next = hex-right l 16 (at + 1) in
@@ -89,7 +109,9 @@ hex-right (b ∷ l) half at =
     (λ e₁. whole (half * 16 + d) (ltb-true half 16 e₁) (omega (arith, ltb-true d 16 e, ltb-true half 16 e₁)) next)
     (λ e₁. weaker (hexGo l d (at + 1)) (one d) (hex-right l d (at + 1))))
     (λ e. by-cases Goes (isBlank b) _ Refuse
-    (λ e₁. by-cases Goes (ltb half 16) Refuse Skip (λ e₂. tt) (λ e₂. weaker (hexGo l 16 (at + 1)) (omega arith) next))
+    (λ e₁. by-cases Goes (ltb half 16) (Whole half) Skip
+    (λ e₂. whole half (ltb-true half 16 e₂) (omega (arith, ltb-true half 16 e₂)) next)
+    (λ e₂. weaker (hexGo l 16 (at + 1)) (omega arith) next))
     (λ e₁. tt))
   where
     Goes : HexStep → Type 0

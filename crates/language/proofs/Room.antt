@@ -20,10 +20,11 @@ use Rattle.language.specs.Limits.{lineLimit, sendRoom, waitRoom, logRoom
 use Rattle.language.specs.Clock.{clockText}
 use Rattle.language.specs.Script.{Statement, send, loop, end, waitTime, waitData, waitByte, waitClock, waitSignal, rts, log, fchange, pause, resume, nop, dataOf}
 use Rattle.language.specs.Meaning.{signs}
-use Rattle.language.specs.Listing.{isPlain, inHex, dataText, countText, timeText, onText, signalText, logText, lineFor}
+use Rattle.language.specs.Listing.{isPlain, inHex, lastInOne, shortHex, dataText, countText, timeText, onText, signalText, logText, lineFor}
 use Rattle.language.specs.Right.{isByte, inLine, dataRight, timeRight, logRight, right}
 use Rattle.language.proofs.Bytes.{bytes-are, solid-line, plain-line}
 use Rattle.language.proofs.Clocks.{clock-length, clock-solid}
+use Rattle.language.proofs.Hexes.{one-over, short-length, short-solid}
 
 -- the length is told in 57ths of a byte, `over` of them over 21 bytes
 pub record Fine (over : ℕ) (l : List ℕ) : Type 0 where
@@ -31,7 +32,7 @@ pub record Fine (over : ℕ) (l : List ℕ) : Type 0 where
   pub small : length l * 57 ≤ 1197 + over
   pub whole : all inLine l ≡ true
 
--- data: in hex, or as text that is plain or has no room in hex
+-- data: in hex, with the last byte in one digit in the one case, or as text that is plain or has no room in hex
 record Written (room : ℕ) (bs l : List ℕ) : Type 0 where
   fits : length l ≤ suc room
   small : length l ≤ 1 + length bs * 2
@@ -39,22 +40,29 @@ record Written (room : ℕ) (bs l : List ℕ) : Type 0 where
 
 written : (room : ℕ) (bs : List ℕ) → dataRight room bs ≡ true → Written room bs (dataText room bs)
 unfolding dataRight dataText inHex inLine isByte
-written room bs h = go (all isPlain bs) (leb (length bs * 2) room) refl refl (both-right (all isByte bs) _ h)
+written room bs h =
+    go (lastInOne room bs) (all isPlain bs) (leb (length bs * 2) room) refl refl refl (both-right (all isByte bs) _ h)
   where
-    go : (p q : Bool) → all isPlain bs ≡ p → leb (length bs * 2) room ≡ q → (q || (leb (length bs) room && all inLine bs)) ≡ true
-        → Written room bs (cond (not p && q) (58 ∷ hexText bs) (47 ∷ bs))
-    go true true a e r =
-        let l : length bs * 2 ≤ room = leb-true (length bs * 2) room e in
+    bytes : all isByte bs ≡ true
+    bytes = both-left (all isByte bs) _ h
+
+    go : (o p q : Bool) → lastInOne room bs ≡ o → all isPlain bs ≡ p → leb (length bs * 2) room ≡ q → (q || (o || (leb (length bs) room && all inLine bs))) ≡ true
+        → Written room bs (cond o (58 ∷ shortHex bs) (cond (not p && q) (58 ∷ hexText bs) (47 ∷ bs)))
+    go true p q e a l r =
+        let n : length (shortHex bs) ≡ room = short-length room bs e in
+        record { fits = omega arith; small = omega (arith, one-over room bs e); whole = solid-line (shortHex bs) (short-solid room bs e bytes) }
+    go false true true e a l r =
+        let n : length bs * 2 ≤ room = leb-true (length bs * 2) room l in
         record { fits = omega arith; small = omega arith; whole = plain-line bs a }
-    go true false a e r =
-        let l : length bs ≤ room = leb-true (length bs) room (both-left _ (all inLine bs) r) in
+    go false true false e a l r =
+        let n : length bs ≤ room = leb-true (length bs) room (both-left _ (all inLine bs) r) in
         record { fits = omega arith; small = omega arith; whole = plain-line bs a }
-    go false true a e r =
-        let l : length bs * 2 ≤ room = leb-true (length bs * 2) room e in
+    go false false true e a l r =
+        let n : length bs * 2 ≤ room = leb-true (length bs * 2) room l in
         let k : length (hexText bs) ≡ length bs * 2 = hex-length bs in
-        record { fits = omega arith; small = omega arith; whole = solid-line (hexText bs) (hex-solid bs (bytes-are bs (both-left (all isByte bs) (leb (length bs * 2) room || (leb (length bs) room && all inLine bs)) h))) }
-    go false false a e r =
-        let l : length bs ≤ room = leb-true (length bs) room (both-left _ (all inLine bs) r) in
+        record { fits = omega arith; small = omega arith; whole = solid-line (hexText bs) (hex-solid bs (bytes-are bs bytes)) }
+    go false false false e a l r =
+        let n : length bs ≤ room = leb-true (length bs) room (both-left _ (all inLine bs) r) in
         record { fits = omega arith; small = omega arith; whole = both-right (leb (length bs) room) (all inLine bs) r }
 
 send-fine : (bs : List ℕ) → dataRight sendRoom bs ≡ true → Fine (length bs * 105) (dataText sendRoom bs)

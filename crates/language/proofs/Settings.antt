@@ -21,7 +21,8 @@ use Rattle.language.specs.Script.{setEncode, setStopbits, setOmit, setLf
 use Rattle.language.specs.Meaning.{markedData, omitSays, encodeHex, encodeOf, stopbitsOf, isCapital, raised, raise, extension, lfextOf, meaning}
 use Rattle.language.specs.Right.{isByte, inLine}
 use Rattle.language.proofs.Bytes.{byte-is, bytes-are, solid-line}
-use Rattle.language.proofs.Back.{choice, hex-said}
+use Rattle.language.proofs.Hexes.{hex-said}
+use Rattle.language.proofs.Back.{choice}
 use Rattle.language.proofs.Room.{Fine, name-fine, short-fine}
 
 module _ (x : List ℕ) where

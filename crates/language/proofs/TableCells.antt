@@ -12,10 +12,12 @@ use Rattle.reader.proofs.Tests.{both-left, both-right, both, true-is-false}
 use Rattle.language.specs.Limits.{dataLimit, sendRoom, waitRoom, logRoom}
 use Rattle.language.specs.Clock.{range, within}
 use Rattle.language.specs.Script.{Statement, send, loop, end, waitTime, waitData, waitByte, waitClock, waitSignal, rts, log, fchange, pause, resume, nop, dataOf}
+use Rattle.language.specs.Listing.{lastInOne}
 use Rattle.language.specs.Right.{isByte, inLine, dataRight, inRanges, clockRight, logRight, right}
 use Rattle.language.specs.Cell.{span, spanRight, unitRight, fixedRight, clockFrom, fixedUnits}
 use Rattle.language.specs.inside.Right.{cellRight}
 use Rattle.language.specs.Table.{cellFor, statementOf}
+use Rattle.language.proofs.Hexes.{one-over}
 
 -- ---- clock values
 
@@ -56,11 +58,12 @@ fixed-right (d ∷ o ∷ m ∷ s ∷ more) h =
 -- data that a line has room for are few enough
 pub data-room : (room : ℕ) (bs : List ℕ) → dataRight room bs ≡ true → length bs ≤ room
 unfolding dataRight
-data-room room bs h = go (leb (length bs * 2) room) refl (both-right (all isByte bs) _ h)
+data-room room bs h = go (leb (length bs * 2) room) (lastInOne room bs) refl refl (both-right (all isByte bs) _ h)
   where
-    go : (t : Bool) → leb (length bs * 2) room ≡ t → (t || (leb (length bs) room && all inLine bs)) ≡ true → length bs ≤ room
-    go true e r = omega (arith, leb-true (length bs * 2) room e)
-    go false e r = leb-true (length bs) room (both-left (leb (length bs) room) _ r)
+    go : (t o : Bool) → leb (length bs * 2) room ≡ t → lastInOne room bs ≡ o → (t || (o || (leb (length bs) room && all inLine bs))) ≡ true → length bs ≤ room
+    go true o e k r = omega (arith, leb-true (length bs * 2) room e)
+    go false true e k r = omega (arith, one-over room bs k)
+    go false false e k r = leb-true (length bs) room (both-left (leb (length bs) room) _ r)
 
 pub span-right : (low high at n : ℕ) → low ≤ n → n ≤ high → at + n ≤ dataLimit → spanRight low high (span at n) ≡ true
 unfolding spanRight

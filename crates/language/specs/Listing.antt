@@ -1,13 +1,13 @@
 -- Document 01, "The listing". "CR LF after each line. One line per written statement line."
-use Prim.Native.Nat.{ℕ, _+_, _*_, _/_}
+use Prim.Native.Nat.{ℕ, suc, _+_, _-_, _*_, _/_}
 use mathlib.Core.Bool.{Bool, true, false, cond, _&&_, not}
 use mathlib.Core.List.{List, [], _∷_, _++_}
-use lib.ListN.{length}
-use lib.Dec.{leb, eqb}
+use lib.ListN.{length, getD, take}
+use lib.Dec.{ltb, leb, eqb}
 use Rattle.reader.specs.Ascii.{ascii}
 use Rattle.reader.specs.Bytes.{all, same}
 use Rattle.writer.specs.Put.{decimal}
-use Rattle.writer.specs.Hex.{hexText}
+use Rattle.writer.specs.Hex.{capital, hexText}
 use Rattle.language.specs.Limits.{sendRoom, waitRoom}
 use Rattle.language.specs.Clock.{clockText}
 use Rattle.language.specs.Script.{Statement, send, loop, end, waitTime, waitData, waitByte, waitClock, waitSignal, rts, log, fchange, pause, resume, nop, Encode, unset, byte, Settings, Item, does, next, Script}
@@ -21,9 +21,21 @@ isPlain b = leb 32 b && leb b 126
 unfoldable pub inHex : ℕ → List ℕ → Bool
 inHex room bs = not (all isPlain bs) && leb (length bs * 2) room
 
--- "Data in hex", after `:`, "else text", after `/`
+-- the last of some bytes
+abbrev pub lastOf : List ℕ → ℕ
+lastOf bs = getD bs (length bs - 1) 0
+
+-- No. 5: "a WAIT DATA line can now hold 58 bytes, the last below 10h": with two digits for each they are one over the room
+unfoldable pub lastInOne : ℕ → List ℕ → Bool
+lastInOne room bs = eqb (length bs * 2) (suc room) && ltb (lastOf bs) 16
+
+-- No. 5: "in that one case the listing writes the last byte as one digit", and those before it in two
+unfoldable pub shortHex : List ℕ → List ℕ
+shortHex bs = hexText (take (length bs - 1) bs) ++ capital (lastOf bs) ∷ []
+
+-- No. 5's case; then "Data in hex", after `:`, "else text", after `/`
 unfoldable pub dataText : ℕ → List ℕ → List ℕ
-dataText room bs = cond (inHex room bs) (58 ∷ hexText bs) (47 ∷ bs)
+dataText room bs = cond (lastInOne room bs) (58 ∷ shortHex bs) (cond (inHex room bs) (58 ∷ hexText bs) (47 ∷ bs))
 
 -- "`#LOOP EVER` or the count"
 unfoldable pub countText : ℕ → List ℕ

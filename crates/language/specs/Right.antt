@@ -10,7 +10,7 @@ use Rattle.language.specs.Limits.{linesLimit, dataLimit, omitLimit, loop
 use Rattle.language.specs.Clock.{Range, within, secondOn, minuteOn, hourOn, dayOn}
 use Rattle.language.specs.Script.{Statement, send, loop, end, waitTime, waitData, waitByte, waitClock, waitSignal, rts, log, fchange, pause, resume, nop, Encode, unset, byte, Settings, Item, does, next, Script, processes, Shape, opens, closes, stays, shape, dataOf}
 use Rattle.language.specs.Meaning.{signs, extension}
-use Rattle.language.specs.Listing.{listedLines}
+use Rattle.language.specs.Listing.{lastInOne, listedLines}
 
 -- a byte is below 256
 unfoldable pub isByte : ℕ → Bool
@@ -20,9 +20,9 @@ isByte b = ltb b 256
 unfoldable pub inLine : ℕ → Bool
 inLine b = isByte b && not (eqb b 10)
 
--- data that a line has room for: in hex, or, with no LF among them, as text
+-- data that a line has room for: in hex, the last byte in one digit if need be, or, with no LF among them, as text
 unfoldable pub dataRight : ℕ → List ℕ → Bool
-dataRight room bs = all isByte bs && (leb (length bs * 2) room || (leb (length bs) room && all inLine bs))
+dataRight room bs = all isByte bs && (leb (length bs * 2) room || (lastInOne room bs || (leb (length bs) room && all inLine bs)))
 
 -- up to 60,000 ms, or whole seconds up to 60,000
 unfoldable pub timeRight : ℕ → Bool

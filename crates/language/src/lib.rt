@@ -1,6 +1,7 @@
 // What a script is: the table that it is laid out in, its cells, and what the compiler answers.
 
 pub mod extension;
+pub mod last_digit;
 pub mod limits;
 pub mod signs;
 

@@ -13,6 +13,7 @@ use crate::hex_or_text::in_hex;
 use crate::text::hex;
 use crate::text::number;
 use crate::text::put;
+use crate::text::short_hex;
 use crate::text::store;
 use crate::text::unit;
 use language::Clock;
@@ -20,6 +21,7 @@ use language::DATA;
 use language::Pool;
 use language::Span;
 use language::WAIT_ROOM;
+use language::last_digit::last_in_one;
 use reader::widths::wide;
 
 pub(crate) fn number_of(x: u16) -> u32
@@ -33,6 +35,10 @@ fn data_text(out: &mut [u8], at: usize, text: &[u8], room: usize) -> usize
     requires { ⌜ (room ≤ sendRoom) × FitsListing at (dataText room (now text)) ⌝ }
     ensures { λ r. ⌜ Printed (dataText room (now (text .entry))) (now (out .entry)) at r (now (out .exit)) ⌝ }
 {
+    if last_in_one(text, room) {
+        store(out, at, b':');
+        return short_hex(out, at + 1, text);
+    }
     if in_hex(text, room) {
         store(out, at, b':');
         return hex(out, at + 1, text);

@@ -2,13 +2,15 @@
 ghost use mathlib.Core.Path.{_≡_};
 ghost use mathlib.Core.Bool.{cond};
 ghost use mathlib.Core.List.{[]};
-ghost use Prim.Native.Nat.{_≤_};
+ghost use Prim.Native.Nat.{_≤_, _<_};
 ghost use lib.ListN.{length, take, set};
 ghost use Rattle.writer.specs.Hex.{hexText};
 ghost use Rattle.writer.specs.Put.{decimal, twoDigits};
+ghost use Rattle.language.specs.Listing.{lastOf, shortHex};
 ghost use Rattle.lister.specs.inside.Printed.{FitsListing, Printed};
 use language::SEND_ROOM;
 use writer::Put;
+use writer::capital_digit;
 use writer::put_decimal;
 use writer::put_hex;
 use writer::put_two_digits;
@@ -71,6 +73,20 @@ pub(crate) fn hex(out: &mut [u8], at: usize, bytes: &[u8]) -> usize
         // There are two digits for each byte.
         Put::NoRoom => at,
     }
+}
+
+// Writes bytes in hex, the last of them in one digit.
+pub(crate) fn short_hex(out: &mut [u8], at: usize, bytes: &[u8]) -> usize
+    requires { ⌜ (0 < length (now bytes))
+        × (length (now bytes) ≤ 64)
+        × (lastOf (now bytes) < 16)
+        × FitsListing at (shortHex (now bytes)) ⌝ }
+    ensures { λ r. ⌜ Printed (shortHex (now (bytes .entry))) (now (out .entry)) at r (now (out .exit)) ⌝ }
+{
+    let last = bytes.len() - 1;
+    let next = hex(out, at, &bytes[..last]);
+    store(out, next, capital_digit(bytes[last]));
+    next + 1
 }
 
 // Writes a number below 100 in two digits.

@@ -1,9 +1,10 @@
 -- What a computed test says. Assumes nothing.
-use Prim.Native.Nat.{ℕ}
+use Prim.Native.Nat.{ℕ, zero, suc}
 use native.Mathlib.Omega.{arith}
 use mathlib.Core.Path.{_≡_, refl}
 use mathlib.Core.Bool.{Bool, true, false, cond, _&&_}
 use mathlib.Core.List.{List, [], _∷_, _++_}
+use lib.ListN.{take}
 use Rattle.reader.specs.Bytes.{all}
 
 pub both-left : (a b : Bool) → (a && b) ≡ true → a ≡ true
@@ -31,6 +32,11 @@ by-cases P false x y f g = g refl
 pub all-append : (p : ℕ → Bool) (a b : List ℕ) → all p a ≡ true → all p b ≡ true → all p (a ++ b) ≡ true
 all-append p [] b h k = k
 all-append p (x ∷ a) b h k = both (p x) (all p (a ++ b)) (both-left (p x) (all p a) h) (all-append p a b (both-right (p x) (all p a) h) k)
+
+pub all-take : (p : ℕ → Bool) (n : ℕ) (l : List ℕ) → all p l ≡ true → all p (take n l) ≡ true
+all-take p zero l h = refl
+all-take p (suc n) [] h = refl
+all-take p (suc n) (b ∷ l) h = both (p b) (all p (take n l)) (both-left (p b) (all p l) h) (all-take p n l (both-right (p b) (all p l) h))
 
 -- the same as a fact of every byte
 abbrev pub Every : (ℕ → Type 0) → List ℕ → Type 0

@@ -35,10 +35,11 @@ module _ {d₀ : List ℕ} {at : ℕ} {bs d : List ℕ} {place : ℕ} (s : List 
   hex-room w = omega (arith, w .long, w .ends, w .room, hex-length (drop i s), length-drop i s)
 
   -- `x` and `y` are the digits that the code has found
-  pub two-stored : {x y : ℕ} → x ≡ capital (getD s i 0 / 16) → y ≡ capital (getD s i 0 % 16) → Placing d₀ at bs d place (hexText (drop i s))
+  pub two-stored : {x y : ℕ} → getD s i 0 < 256 → x ≡ capital (getD s i 0 / 16 % 16) → y ≡ capital (getD s i 0 % 16) → Placing d₀ at bs d place (hexText (drop i s))
       → Placing d₀ at bs (set (set d place x) (place + 1) y) (place + 2) (hexText (drop (i + 1) s))
   unfolding hexText
-  two-stored {x} {y} p q w =
+  two-stored {x} {y} byte p q w =
       let e : place + 1 + 1 ≡ place + 2 = omega arith in
-      let text : hexText (drop i s) ≡ x ∷ y ∷ hexText (drop (i + 1) s) = rw (add-one i, drop-cons s i 0, p, q) in
+      let high : getD s i 0 / 16 % 16 ≡ getD s i 0 / 16 = omega arith in
+      let text : hexText (drop i s) ≡ x ∷ y ∷ hexText (drop (i + 1) s) = rw (add-one i, drop-cons s i 0, p, q, high) in
       rw e at (stored (stored (renamed text w)))

@@ -1,5 +1,5 @@
 // Bytes, decimal numbers and hex data written into a lent slice from a place on, all of it or nothing.
-ghost use Prim.Native.Nat.{_<_, _^_};
+ghost use Prim.Native.Nat.{_%_, _^_};
 ghost use mathlib.Core.Path.{_≡_};
 ghost use mathlib.Core.List.{_∷_, []};
 ghost use Rattle.writer.specs.Hex.{capital, hexText};
@@ -39,11 +39,11 @@ pub fn put_two_digits(dst: &mut [u8], at: usize, n: u8) -> Put
     put_bytes(dst, at, &digits)
 }
 
-// A capital hex digit.
-fn capital_digit(d: u8) -> u8
-    requires { ⌜ d < 16 ⌝ }
-    ensures { λ r. ⌜ r ≡ capital d ⌝ }
+// The capital digit of a value below 16; of another byte, of its low half.
+pub fn capital_digit(b: u8) -> u8
+    ensures { λ r. ⌜ r ≡ capital (b % 16) ⌝ }
 {
+    let d = b % 16;
     if d < 10 {
         return 48 + d;
     }
@@ -66,7 +66,7 @@ pub fn put_hex(dst: &mut [u8], at: usize, bytes: &[u8]) -> Put
     while i < bytes.len() {
         let b = bytes[i];
         dst[place] = capital_digit(b / 16);
-        dst[place + 1] = capital_digit(b % 16);
+        dst[place + 1] = capital_digit(b);
         place += 2;
         i += 1;
     }

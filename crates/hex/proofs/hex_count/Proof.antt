@@ -74,6 +74,12 @@ loop-again-3 c =
     let at-loop = at-hex-step .before .before .before in
     one-more (at-loop .loop .inv) (omega arith) (sym (c .enum-told3 .given .1) ∙ at-hex-step .hex-step .ensures)
 
+add-t14 : tie.Need-add-t14 Inv-loop μ-loop
+add-t14 c =
+    let w = c .before .before .loop .inv in
+    let h = w .digit (omega arith) in
+    omega arith
+
 returns-2 : tie.Need-returns-2 Inv-loop μ-loop
 returns-2 c = sym (odd-end (c .before .before .loop .inv) (omega arith) (omega arith))
 
@@ -102,5 +108,6 @@ hex-count-spec =
     loop-again-2
     loop-less-3
     loop-again-3
+    add-t14
     returns-2
     returns-3)

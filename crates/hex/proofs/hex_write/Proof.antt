@@ -2,10 +2,10 @@
 use Prim.Native.Nat.{_-_}
 use mathlib.Core.Path.{sym, _∙_}
 use native.Mathlib.Omega.{arith}
-use lib.ListN.{length}
+use lib.ListN.{length, length-set}
 use Rattle.hex.specs.Hex.{hexAt}
 use Rattle.hex.specs.inside.Said.{saidBytes}
-use Rattle.hex.proofs.Stepping.{Writing, unwritten, all-written, none-refused, parted, begins, room-there, byte-stored}
+use Rattle.hex.proofs.Stepping.{Writing, unwritten, all-written, room-for-digit, digit-written, none-refused, parted, begins, room-there, byte-stored}
 use borrow.Author.Needs.{needs}
 use Rattle.hex.proofs.hex_write.Statement.{statement}
 use Rattle.hex.proofs.hex_write.Tie as tie
@@ -92,11 +92,20 @@ loop-again-3 c =
     let at-loop = at-hex-step .before .before .before in
     byte-stored (at-loop .loop .inv) (omega arith) (sym (c .before .b .given .1) ∙ at-hex-step .hex-step .ensures)
 
+slice-write-dst-2 : tie.Need-slice-write-dst-2 Inv-loop μ-loop
+slice-write-dst-2 c = room-for-digit (c .before .before .loop .inv) (omega arith) (omega arith)
+
 same-length-2 : tie.Need-same-length-2 Inv-loop μ-loop
-same-length-2 c = c .before .loop .inv .placing .long
+same-length-2 c = simp length-set (c .before .before .loop .inv .placing .long)
 
 returns-2 : tie.Need-returns-2 Inv-loop μ-loop
-returns-2 c = all-written (c .before .loop .inv) (omega arith)
+returns-2 c = digit-written (c .before .before .loop .inv) (omega arith) (omega arith)
+
+same-length-3 : tie.Need-same-length-3 Inv-loop μ-loop
+same-length-3 c = c .before .before .loop .inv .placing .long
+
+returns-3 : tie.Need-returns-3 Inv-loop μ-loop
+returns-3 c = all-written (c .before .before .loop .inv) (omega arith) (omega arith)
 
 pub hex-write-spec : {M : Type 1} → statement M
 hex-write-spec =
@@ -122,5 +131,8 @@ hex-write-spec =
     loop-again-2
     loop-less-3
     loop-again-3
+    slice-write-dst-2
     same-length-2
-    returns-2)
+    returns-2
+    same-length-3
+    returns-3)

@@ -42,7 +42,7 @@ shared-slice-read-b : tie.Need-shared-slice-read-b Inv-loop μ-loop
 shared-slice-read-b c = omega arith
 
 capital-digit-requires : tie.Need-capital-digit-requires Inv-loop μ-loop
-capital-digit-requires c κs = omega (arith, c .shared-slice-known2 .given (c .before .before .loop .i))
+capital-digit-requires c κs = tt
 
 slice-write-dst : tie.Need-slice-write-dst Inv-loop μ-loop
 slice-write-dst c =
@@ -51,7 +51,7 @@ slice-write-dst c =
     omega (arith, hex-room _ _ (at-loop-test .loop-test .taken) (at-loop .loop .inv))
 
 capital-digit-requires-2 : tie.Need-capital-digit-requires-2 Inv-loop μ-loop
-capital-digit-requires-2 c κs = omega arith
+capital-digit-requires-2 c κs = tt
 
 add-dst : tie.Need-add-dst Inv-loop μ-loop
 add-dst c =
@@ -81,8 +81,8 @@ loop-again : tie.Need-loop-again Inv-loop μ-loop
 loop-again c =
     let at-loop-test = c .before .before .before in
     let at-loop = at-loop-test .before in
-    two-stored _ _ (at-loop-test .loop-test .taken) (c .before .capital-digit .ensures) (c .capital-digit2 .ensures)
-    (at-loop .loop .inv)
+    two-stored _ _ (at-loop-test .loop-test .taken) (c .before .before .shared-slice-known2 .given (at-loop .loop .i) .fits)
+    (c .before .capital-digit .ensures) (c .capital-digit2 .ensures) (at-loop .loop .inv)
 
 same-length : tie.Need-same-length Inv-loop μ-loop
 same-length c = c .before .loop .inv .long
