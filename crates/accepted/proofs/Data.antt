@@ -1,5 +1,5 @@
 -- What the tests of data decide. Assumes nothing.
-use Prim.Native.Nat.{ℕ, suc, _+_, _-_, _*_, _≤_, _<_}
+use Prim.Native.Nat.{ℕ, _+_, _-_, _*_, _≤_, _<_}
 use mathlib.Core.Path.{_≡_, sym, ap, _∙_}
 use mathlib.Core.Bool.{Bool, true, false, _&&_}
 use mathlib.Core.List.{List}
@@ -11,17 +11,17 @@ use Rattle.language.specs.declared.Span.{Span}
 use Rattle.language.specs.Listing.{lastInOne}
 use Rattle.language.specs.Right.{isByte, inLine, dataRight}
 use Rattle.language.specs.Table.{dataAt}
+use Rattle.language.proofs.LastDigit.{not-one}
 use Rattle.accepted.specs.declared.Fit.the-variants.{To, Not}
 use Rattle.accepted.specs.inside.Cells.{follows}
 use Rattle.accepted.specs.inside.EndsFit.{reaches}
 
 module _ (room : ℕ) (bs : List ℕ) (bytes : all isByte bs ≡ true) where
   pub data-long : room < length bs → false ≡ dataRight room bs
-  unfolding dataRight lastInOne
+  unfolding dataRight
   data-long h =
       let d : room < length bs * 2 = omega arith in
-      let n : length bs * 2 ≡ suc room → ⊥ = omega arith in
-      simp (bytes, lt-leb (length bs * 2) room d, ne-eqb (length bs * 2) (suc room) n, lt-leb (length bs) room h)
+      simp (bytes, lt-leb (length bs * 2) room d, not-one room bs (omega arith), lt-leb (length bs) room h)
 
   pub data-hex : length bs * 2 ≤ room → true ≡ dataRight room bs
   unfolding dataRight

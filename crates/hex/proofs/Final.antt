@@ -29,7 +29,7 @@ hex-byte-final [] ys at k h e = let p : at ≡ k = cc in absurd (omega arith)
 hex-byte-final (a ∷ rest) ys at k h e =
     kept (ltb (digitOf a) 16) (λ f. absurd (hex-second-good (digitOf a) rest (at + 1) k f)) same e
 
--- ---- hex data
+-- ---- hex data: they are refused at one of their bytes, never at their end
 
 before-bad : (b k : ℕ) (x : Said) → byteBefore b x ≡ bad k → x ≡ bad k
 unfolding byteBefore
@@ -48,8 +48,8 @@ after-kept at k Skip p q e = p e
 after-kept at k (First h) p q e = q h e
 after-kept at k (Whole b) {x} {y} p q e = bad-before b k y (p (before-bad b k x e))
 
-pub hex-final : (xs ys : List ℕ) (half at k : ℕ) → k < at + length xs → hexGo xs half at ≡ bad k → hexGo (xs ++ ys) half at ≡ bad k
+pub hex-final : (xs ys : List ℕ) (half at k : ℕ) → hexGo xs half at ≡ bad k → hexGo (xs ++ ys) half at ≡ bad k
 unfolding hexGo
-hex-final [] ys half at k h e = let z : _≡_ {A = ℕ} 0 1 = cc in absurd (omega arith)
-hex-final (b ∷ rest) ys half at k h e =
-    after-kept at k (stepOf half b) (hex-final rest ys 16 (at + 1) k (omega arith)) (λ d. hex-final rest ys d (at + 1) k (omega arith)) e
+hex-final [] ys half at k e = let z : _≡_ {A = ℕ} 0 1 = cc in absurd (omega arith)
+hex-final (b ∷ rest) ys half at k e =
+    after-kept at k (stepOf half b) (hex-final rest ys 16 (at + 1) k) (λ d. hex-final rest ys d (at + 1) k) e

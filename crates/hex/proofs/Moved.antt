@@ -53,4 +53,4 @@ hex-byte-at-moved s at = from-zero (hexByteOf (drop at s)) movedOn (hex-byte-mov
 
 pub hex-at-moved : (s : List ℕ) (at : ℕ) → hexAt s at ≡ movedSaid at (hexAt (drop at s) 0)
 unfolding hexAt
-hex-at-moved s at = from-zero (hexGo (drop at s) 16) movedSaid (hex-moved (drop at s) 16) at
+hex-at-moved s at = from-zero _ movedSaid (hex-moved (drop at s) _) at

@@ -23,7 +23,8 @@ use Rattle.reader.proofs.Solid.{solid-append}
 use Rattle.words.proofs.Solid.{argument-solid}
 use Rattle.writer.proofs.Decimals.{decimal-length, decimal-some, decimal-few, decimal-low, decimal-solid}
 use Rattle.writer.proofs.Back.{Stops, number-back}
-use Rattle.language.proofs.Hexes.{hex-said, short-said}
+use Rattle.language.proofs.Hexes.{hex-said}
+use Rattle.language.proofs.LastDigit.{short-said}
 use Rattle.language.specs.Limits.{sendRoom, waitRoom, logRoom}
 use Rattle.language.specs.Clock.{clockOf, clockText}
 use Rattle.language.specs.Script.{Statement, send, loop, end, waitTime, waitData, waitByte, waitClock, waitSignal, rts, log, fchange, pause, resume, nop, says}

@@ -7,10 +7,10 @@ pub mod Examples
 pub mod Bytes
 pub mod Clocks
 pub mod Hexes
+pub mod LastDigit
 pub mod Back
 pub mod Cutting
 pub mod Room
-pub mod LastDigit
 pub mod Settings
 pub mod Folding
 pub mod Good

@@ -23,7 +23,7 @@ use Rattle.language.specs.Meaning.{checked, numberSays, number, loopOf, 
 use Rattle.language.specs.Listing.{lastInOne}
 use Rattle.language.specs.Right.{isByte, inLine, dataRight, timeRight, clockRight, logRight, right}
 use Rattle.language.proofs.Bytes.{byte-is, line-bytes}
-use Rattle.language.proofs.Hexes.{in-one}
+use Rattle.language.proofs.LastDigit.{in-one}
 use Rattle.language.proofs.Reading.{When, Reads, Bytes, number-reads, hex-data-right, hex-byte-reads}
 
 -- nothing.

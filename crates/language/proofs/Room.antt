@@ -24,7 +24,7 @@ use Rattle.language.specs.Listing.{isPlain, inHex, lastInOne, shortHex, 
 use Rattle.language.specs.Right.{isByte, inLine, dataRight, timeRight, logRight, right}
 use Rattle.language.proofs.Bytes.{bytes-are, solid-line, plain-line}
 use Rattle.language.proofs.Clocks.{clock-length, clock-solid}
-use Rattle.language.proofs.Hexes.{one-over, short-length, short-solid}
+use Rattle.language.proofs.LastDigit.{one-over, short-length, short-solid}
 
 -- the length is told in 57ths of a byte, `over` of them over 21 bytes
 pub record Fine (over : ℕ) (l : List ℕ) : Type 0 where

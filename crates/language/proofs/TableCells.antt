@@ -17,7 +17,7 @@ use Rattle.language.specs.Right.{isByte, inLine, dataRight, inRanges, cl
 use Rattle.language.specs.Cell.{span, spanRight, unitRight, fixedRight, clockFrom, fixedUnits}
 use Rattle.language.specs.inside.Right.{cellRight}
 use Rattle.language.specs.Table.{cellFor, statementOf}
-use Rattle.language.proofs.Hexes.{one-over}
+use Rattle.language.proofs.LastDigit.{one-over}
 
 -- ---- clock values
 

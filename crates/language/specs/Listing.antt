@@ -21,9 +21,12 @@ isPlain b = leb 32 b && leb b 126
 unfoldable pub inHex : ℕ → List ℕ → Bool
 inHex room bs = not (all isPlain bs) && leb (length bs * 2) room
 
--- the last of some bytes
+-- the last of some bytes, and those before it
 abbrev pub lastOf : List ℕ → ℕ
 lastOf bs = getD bs (length bs - 1) 0
+
+abbrev pub frontOf : List ℕ → List ℕ
+frontOf bs = take (length bs - 1) bs
 
 -- No. 5: "a WAIT DATA line can now hold 58 bytes, the last below 10h": with two digits for each they are one over the room
 unfoldable pub lastInOne : ℕ → List ℕ → Bool
@@ -31,7 +34,7 @@ lastInOne room bs = eqb (length bs * 2) (suc room) && ltb (lastOf bs) 16
 
 -- No. 5: "in that one case the listing writes the last byte as one digit", and those before it in two
 unfoldable pub shortHex : List ℕ → List ℕ
-shortHex bs = hexText (take (length bs - 1) bs) ++ capital (lastOf bs) ∷ []
+shortHex bs = hexText (frontOf bs) ++ capital (lastOf bs) ∷ []
 
 -- No. 5's case; then "Data in hex", after `:`, "else text", after `/`
 unfoldable pub dataText : ℕ → List ℕ → List ℕ

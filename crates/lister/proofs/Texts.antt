@@ -12,9 +12,9 @@ use Rattle.writer.specs.Hex.{capital, hexText}
 use Rattle.writer.specs.Put.{decimal}
 use Rattle.reader.proofs.Tests.{both-right}
 use Rattle.language.specs.declared.Span.{Span}
-use Rattle.language.specs.Listing.{isPlain, inHex, lastOf, lastInOne, shortHex, dataText, countText, timeText, onText, signalText, logText}
+use Rattle.language.specs.Listing.{isPlain, inHex, frontOf, lastOf, lastInOne, shortHex, dataText, countText, timeText, onText, signalText, logText}
 use Rattle.language.specs.Table.{dataAt}
-use Rattle.language.proofs.Hexes.{one-over, last-small}
+use Rattle.language.proofs.LastDigit.{one-over, last-small}
 use Rattle.lister.specs.inside.Printed.{FitsListing}
 use Rattle.lister.proofs.Printing.{room-is, first-room, then-room}
 
@@ -50,23 +50,23 @@ hex-few room bs told h e = omega (arith, leb-true (length bs * 2) room (both-rig
 
 -- the bytes before the last, then the digit of the last
 module _ (bs : List ℕ) where
-  pub front-few : length bs ≤ 64 → length (take (length bs - 1) bs) ≤ 63
+  pub front-few : length bs ≤ 64 → length (frontOf bs) ≤ 63
   front-few h = omega (arith, length-take (length bs - 1) bs)
 
   module _ (small : lastOf bs < 16) where
-    pub short-parts : {d : ℕ} → d ≡ capital (lastOf bs % 16) → hexText (take (length bs - 1) bs) ++ (d ∷ []) ≡ shortHex bs
+    pub short-parts : {d : ℕ} → d ≡ capital (lastOf bs % 16) → hexText (frontOf bs) ++ (d ∷ []) ≡ shortHex bs
     unfolding shortHex
     short-parts is = let e : lastOf bs % 16 ≡ lastOf bs = omega arith in rw (is, e)
 
     module _ {at : ℕ} (room : FitsListing at (shortHex bs)) where
-      both-room : FitsListing at (hexText (take (length bs - 1) bs) ++ (capital (lastOf bs % 16) ∷ []))
+      both-room : FitsListing at (hexText (frontOf bs) ++ (capital (lastOf bs % 16) ∷ []))
       both-room = room-is (short-parts refl) room
 
-      pub front-room : FitsListing at (hexText (take (length bs - 1) bs))
-      front-room = first-room (hexText (take (length bs - 1) bs)) (capital (lastOf bs % 16) ∷ []) both-room
+      pub front-room : FitsListing at (hexText (frontOf bs))
+      front-room = first-room (hexText (frontOf bs)) (capital (lastOf bs % 16) ∷ []) both-room
 
-      pub digit-room : {r : ℕ} → r ≡ at + length (hexText (take (length bs - 1) bs)) → FitsListing r (capital (lastOf bs % 16) ∷ [])
-      digit-room e = then-room (hexText (take (length bs - 1) bs)) (capital (lastOf bs % 16) ∷ []) both-room e
+      pub digit-room : {r : ℕ} → r ≡ at + length (hexText (frontOf bs)) → FitsListing r (capital (lastOf bs % 16) ∷ [])
+      digit-room e = then-room (hexText (frontOf bs)) (capital (lastOf bs % 16) ∷ []) both-room e
 
 -- a part of the pool
 pub held : (pool : List ℕ) (s : Span) {f n : ℕ} → f ≡ s .from → n ≡ s .count → take (f + n - f) (drop f pool) ≡ dataAt pool s
