@@ -9,6 +9,7 @@ use lib.ListN.{length, getD, length-append}
 use borrow.Author.Tests.{lt-ltb, ne-eqb}
 use Rattle.reader.specs.Ascii.{ascii}
 use Rattle.reader.specs.Bytes.{same}
+use Rattle.reader.proofs.Tests.{and-false}
 use Rattle.language.specs.Script.{Encode, unset, byte, Settings, Item, does, next, Script, dataOf}
 use Rattle.language.specs.Listing.{lineIf, encodeLines, settingLines, itemLines, bodyLines, listedLines}
 use Rattle.language.specs.Right.{nextsIn}
@@ -96,10 +97,6 @@ first-empty (does s ∷ is) =
     let l = first-end is (0 + 1) in
     let n : getD (endsFrom (0 + 1) is) 0 0 ≡ 0 → ⊥ = omega arith in
     sym (rw (ne-eqb (getD (endsFrom (0 + 1) is) 0 0) 0 n) (and-false (ltb 1 (length (endsFrom (0 + 1) is)))))
-  where
-    and-false : (t : Bool) → (t && false) ≡ false
-    and-false true = refl
-    and-false false = refl
 first-empty (next ∷ is) =
     let e = ends-count is 0 in
     let l : 1 < suc (length (endsFrom 0 is)) = omega arith in

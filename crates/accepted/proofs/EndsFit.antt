@@ -8,6 +8,7 @@ use native.Mathlib.Omega.{arith}
 use lib.ListN.{length, take, drop, getD, length-take, drop-of-length-le}
 use lib.Seq.{drop-cons, getD-take}
 use borrow.Author.Tests.{le-leb, lt-leb}
+use Rattle.reader.proofs.Tests.{and-false}
 use Rattle.language.specs.declared.Heads.{Heads}
 use Rattle.language.specs.Limits.{linesLimit, processLimit}
 use Rattle.accepted.specs.declared.Fit.{Fit}
@@ -65,10 +66,6 @@ module _ {ends : List ℕ} {n last i : ℕ} (w : Passing ends n last i) where
 and-true : (t : Bool) → (t && true) ≡ t
 and-true true = refl
 and-true false = refl
-
-pub and-false : (t : Bool) → (t && false) ≡ false
-and-false true = refl
-and-false false = refl
 
 module _ (h : Heads) where
   pub no-process : h .processes < 1 → Not ≡ reaches (endsRight h) (inUse h)

@@ -141,7 +141,7 @@ compiled-right (accepted s) text t k b e a =
     let right-s = accepted-right stretchOf s text (record { bytes = b; result = e }) in
     let same-table : laidOut s ≡ t = ap (λ (c : Compiled). c .table) a in
     rw same-table at (laid-right s right-s)
-compiled-right (refused f row) text t k b e a = let z : _≡_ {A = Answer} (Refused f row) (Accepted k) = ap (λ (c : Compiled). c .answer) a in cc
+compiled-right (refused f row column) text t k b e a = let z : _≡_ {A = Answer} (Refused f row column) (Accepted k) = ap (λ (c : Compiled). c .answer) a in cc
 
 pub compiles-right : (t : Table) (text : List ℕ) → Compiles t text → tableRight t ≡ true
 unfolding compiled scriptFrom

@@ -5,11 +5,12 @@ use mathlib.Core.Bool.{Bool, true, false}
 use mathlib.Core.List.{List}
 use lib.ListN.{take, drop}
 use borrow.Author.Tests.{le-leb, lt-leb, eq-eqb, ne-eqb}
+use Rattle.reader.proofs.Tests.{and-false}
 use Rattle.language.specs.Limits.{dataLimit}
 use Rattle.accepted.specs.declared.Fit.{Fit}
 use Rattle.accepted.specs.declared.Fit.the-variants.{To, Not}
 use Rattle.accepted.specs.inside.Heads.{allZero}
-use Rattle.accepted.proofs.EndsFit.{and-false, reached-not, Reached, reached-to}
+use Rattle.accepted.proofs.EndsFit.{reached-not, Reached, reached-to}
 use Rattle.accepted.specs.inside.Cells.{wordsFit, wordsEnd, cellsFit}
 use Rattle.accepted.specs.inside.CellsFit.{wordsReach}
 

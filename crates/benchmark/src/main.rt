@@ -97,11 +97,13 @@ fn on_table(what: &[u8], table: Table, count: u64, input: &[u8]) {
     say_number(on_started(what, table, count, input)) && say(b"\n");
 }
 
-fn say_refusal(fault: TextFault, line: u32) {
+fn say_refusal(fault: TextFault, line: u32, column: u32) {
     say(b"refused ")
         && say_number(number(fault) as u64)
         && say(b" at ")
         && say_number(line as u64)
+        && say(b",")
+        && say_number(column as u64)
         && say(b"\n");
 }
 
@@ -115,7 +117,7 @@ fn on_text(what: &[u8], text: &[u8], count: u64, input: &[u8]) {
     let table = compiled.table;
     match answer {
         Answer::Accepted(_) => on_table(what, table, count, input),
-        Answer::Refused(fault, line) => say_refusal(fault, line),
+        Answer::Refused(fault, line, column) => say_refusal(fault, line, column),
     }
 }
 

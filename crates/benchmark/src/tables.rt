@@ -18,7 +18,7 @@ fn stretch(text: &[u8]) -> u64 {
     let answer = compiled.answer;
     match answer {
         Answer::Accepted(n) => n as u64,
-        Answer::Refused(_, line) => line as u64,
+        Answer::Refused(_, line, _) => line as u64,
     }
 }
 

@@ -211,8 +211,8 @@ fitting-from (accepted s) text t k b e a =
     let same-answer : _≡_ {A = Answer} (Accepted (largest (s .body))) (Accepted k) = ap (λ (c : Compiled). c .answer) a in
     let same-stretch : largest (s .body) ≡ k = cc in
     rw (same-table, same-stretch) at (script-fitting s (accepted-right stretchOf s text (record { bytes = b; result = e })))
-fitting-from (refused f row) text t k b e a =
-    let z : _≡_ {A = Answer} (Refused f row) (Accepted k) = ap (λ (c : Compiled). c .answer) a in
+fitting-from (refused f row column) text t k b e a =
+    let z : _≡_ {A = Answer} (Refused f row column) (Accepted k) = ap (λ (c : Compiled). c .answer) a in
     let y : _≡_ {A = ℕ} 0 1 = cc in
     absurd (omega arith)
 

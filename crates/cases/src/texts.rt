@@ -50,9 +50,10 @@ fn answer(text: &[u8]) {
             tell(b": stretch ", wide_word(stretch));
             say_table(compiled.table);
         }
-        Answer::Refused(fault, line) => {
+        Answer::Refused(fault, line, column) => {
             tell(b": refused ", wide_byte(number(fault)));
             tell(b" at ", wide_word(line));
+            tell(b",", wide_word(column));
         }
     }
 }

@@ -1,4 +1,4 @@
--- What each match leaves to its last arm, by the tags: nothing is asked there, counted or placed. Assumes nothing.
+-- What each match leaves to its last arm, by the tags: nothing is asked there, counted or placed, and the column is 1. Assumes nothing.
 use Prim.Native.Nat.{ℕ}
 use mathlib.Core.Path.{_≡_, refl}
 use mathlib.Core.Bool.{Bool, false}
@@ -8,6 +8,10 @@ use denote.Enum.Declared.{tagOf}
 use Rattle.language.specs.declared.Cell.{Cell}
 use Rattle.language.specs.declared.Cell.the-variants.{Nothing, Send, Loop, End, WaitTime, WaitData, WaitByte, WaitClock, WaitSignal, Rts, Log, Fchange, Pause, Resume, Nop, Unknown}
 use Rattle.language.proofs.Cell.{the-type}
+use Rattle.language.specs.declared.TextFault.{TextFault}
+use Rattle.language.specs.declared.TextFault.the-variants.{TextTooLong, LineTooLong, TooManyLines, NoSuchName, BadRest, TooMuchData, TooManyOmits, TooManyLoops, EndWithoutLoop, LoopLeftOpen, TooManyProcesses, StretchTooLong}
+use Rattle.language.proofs.TextFault as faults
+use Rattle.language.specs.Column.{columnIn}
 use Rattle.compiler.specs.declared.drafting.Needs.{Needs}
 use Rattle.compiler.specs.declared.drafting.Needs.the-variants.{Sending, Awaiting, Logging, Opening, Closing, Neither}
 use Rattle.line_values.specs.declared.Line.{Line}
@@ -87,3 +91,22 @@ other-counts (Stopbits two) h = refl
 other-counts (Omit n) h = refl
 other-counts (Lfext e) h = refl
 other-counts (Faulty f) h = refl
+
+-- all faults but those with a column of their own
+abbrev first : List ℕ
+first = 2 ∷ 3 ∷ 5 ∷ 6 ∷ 7 ∷ 8 ∷ 9 ∷ 10 ∷ []
+
+pub other-first : (l : List ℕ) (f : TextFault) → OneOf first (tagOf faults.the-type f) → 1 ≡ columnIn l f
+unfolding columnIn
+other-first l TextTooLong h = absurd (miss first 0 tt h)
+other-first l LineTooLong h = absurd (miss first 1 tt h)
+other-first l TooManyLines h = refl
+other-first l NoSuchName h = refl
+other-first l BadRest h = absurd (miss first 4 tt h)
+other-first l TooMuchData h = refl
+other-first l TooManyOmits h = refl
+other-first l TooManyLoops h = refl
+other-first l EndWithoutLoop h = refl
+other-first l LoopLeftOpen h = refl
+other-first l TooManyProcesses h = refl
+other-first l StretchTooLong h = absurd (miss first 11 tt h)

@@ -10,6 +10,7 @@ use Rattle.language.specs.declared.TextFault.the-variants.{LoopLeftOpen, Stretc
 use Rattle.language.specs.Limits.{dataLimit}
 use Rattle.language.specs.Script.{Item, processes}
 use Rattle.language.specs.Stretch.{stretchOf}
+use Rattle.language.specs.Column.{columnIn}
 use Rattle.language.specs.Draft.{Draft, refused, stretched, finished}
 use Rattle.language.specs.Right.{dataIn, nests}
 use Rattle.language.specs.Table.{laidOut}
@@ -23,12 +24,12 @@ use Rattle.compiler.proofs.Nesting.{innermost}
 
 module _ {st : Draft} {w : Work} {cells pool : List ℕ} (i : Sound 0 st) (h : IsDraft st w cells pool) where
   -- "loop open at .. the end of text: line of the innermost"
-  pub open-end : 0 < w .opened → answered (refused LoopLeftOpen (getD (w .loops) (w .opened - 1) 0)) ≡ answered (finished stretchOf (scriptIn st) (st .loops))
-  unfolding finished
+  pub open-end : 0 < w .opened → answered (refused LoopLeftOpen (getD (w .loops) (w .opened - 1) 0) 1) ≡ answered (finished stretchOf (scriptIn st) (st .loops))
+  unfolding finished columnIn
   open-end k = go (st .loops) refl
     where
       go : (ls : List ℕ) → st .loops ≡ ls
-          → answered (refused LoopLeftOpen (getD (w .loops) (w .opened - 1) 0)) ≡ answered (finished stretchOf (scriptIn st) ls)
+          → answered (refused LoopLeftOpen (getD (w .loops) (w .opened - 1) 0) 1) ≡ answered (finished stretchOf (scriptIn st) ls)
       go [] e = absurd (omega (arith, h .opened, ap length e))
       go (l ∷ ls) e =
           let n : w .opened - 1 ≡ length ls = omega (arith, h .opened, ap length e) in
@@ -72,7 +73,8 @@ module _ {st : Draft} {w : Work} {cells pool : List ℕ} (i : Sound 0 st) (h : I
         let v = script-largest (scriptIn st) (i .rights) bytes nested (sym as-laid ∙ e) in
         rw (ending, v .0, v .1, h .words, h .bytes, h .heads)
 
-    pub over-end : {n : ℕ} → measured cells (w .heads) ≡ Over n → answered (refused StretchTooLong n) ≡ answered (finished stretchOf (scriptIn st) (st .loops))
+    pub over-end : {n : ℕ} → measured cells (w .heads) ≡ Over n → answered (refused StretchTooLong n 0) ≡ answered (finished stretchOf (scriptIn st) (st .loops))
+    unfolding columnIn
     over-end e = ap answered (sym (ending ∙ script-over (scriptIn st) (i .rights) bytes nested (sym as-laid ∙ e)))
 
     pub never-broken : {A : Type 0} → measured cells (w .heads) ≡ Broken → A

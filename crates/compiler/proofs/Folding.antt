@@ -9,13 +9,14 @@ use lib.ListN.{length, getD, drop, replicate}
 use borrow.Author.Tests.{ltb-true, ltb-false, lt-ltb, le-leb}
 use Rattle.reader.specs.Bytes.{all}
 use Rattle.language.specs.declared.TextFault.{TextFault}
-use Rattle.language.specs.declared.TextFault.the-variants.{LineTooLong}
+use Rattle.language.specs.declared.TextFault.the-variants.{LineTooLong, BadRest}
 use Rattle.language.specs.declared.Heads.{Heads}
 use Rattle.language.specs.Limits.{textLimit, lineLimit, linesLimit, dataLimit, loopLimit, processPlaces, loopPlaces}
 use Rattle.language.specs.Lines.{dropCr, linesOf}
 use Rattle.language.specs.Script.{Item, does, next, default, dataOf}
 use Rattle.language.specs.Stretch.{stretchOf}
 use Rattle.language.specs.Right.{inLine}
+use Rattle.language.specs.Column.{columnIn}
 use Rattle.language.specs.Draft.{Result, refused, Draft, start, LineTaken, going, stop, takeLine, goOn, finished, fold, resultOf}
 use Rattle.language.specs.Table.{wordsFrom, poolOf, endsFrom, headsOf}
 use Rattle.language.specs.Answer.{answered, scriptFrom, compiled}
@@ -25,14 +26,15 @@ use Rattle.language.proofs.Cutting.{NoLf, cr-length, AllInLine}
 use Rattle.language.proofs.Sound.{Holds, line-on, start-sound}
 use Rattle.language.proofs.SoundBody.{Sound, needs-listed}
 use Rattle.compiler.specs.declared.drafting.Drafting.{Drafting}
-use Rattle.compiler.specs.declared.drafting.Step.{Step}
 use Rattle.compiler.specs.declared.drafting.Step.the-variants.{Going, Stop}
+use Rattle.compiler.specs.declared.drafting.Taken.{Taken}
 use Rattle.compiler.specs.inside.NoLines.{noLines, noSettings}
 use Rattle.compiler.specs.inside.Drafting.{Work, workOf, Stepped, scriptIn, stacked, IsDraft, Took, Ready}
 use Rattle.compiler.specs.inside.Ending.{Ended, Answered}
 use Rattle.compiler.specs.inside.Text.{part, clearFrom, EndsAt}
 use Rattle.compiler.proofs.Texts.{part-none, part-length, no-lines, in-lines, no-lf-joined, clear-fits, clear-past, feed-ends, text-ends, begins, first-lines}
 use Rattle.compiler.proofs.Writing.{never}
+use Rattle.compiler.proofs.Lining.{bad-rest-short}
 
 -- at the head of the loop over lines: the whole is the fold over the lines from `from` on, with what stands of the draft so far
 pub record Folding (s : List ℕ) (w : Work) (row from : ℕ) (cells pool : List ℕ) : Type 0 where
@@ -113,22 +115,23 @@ ready w loops ends settings f =
     }
 
 -- where a line goes on, and where it stops
-record Onward (t : LineTaken) (go : Draft → Result) (r : Stepped) (cells pool : List ℕ) : Type 0 where
+record Onward (l : List ℕ) (t : LineTaken) (go : Draft → Result) (r : Stepped) (cells pool : List ℕ) : Type 0 where
   st : Draft
   sound : Sound 0 st
   stands : IsDraft st (r .work) cells pool
-  is : goOn t go ≡ go st
+  is : goOn l t go ≡ go st
 
-onward : (t : LineTaken) (go : Draft → Result) (r : Stepped) (cells pool : List ℕ) → Holds t → Took t r cells pool → r .step ≡ Going → Onward t go r cells pool
+onward : (l : List ℕ) (t : LineTaken) (go : Draft → Result) (r : Stepped) (cells pool : List ℕ) → Holds t → Took t r cells pool → r .step ≡ Going
+    → Onward l t go r cells pool
 unfolding goOn
-onward (going st) go r cells pool h k e = record { st = st; sound = h; stands = k .1; is = refl }
-onward (stop f n) go r cells pool h k e = absurd (never (r .step) e k)
+onward l (going st) go r cells pool h k e = record { st = st; sound = h; stands = k .1; is = refl }
+onward l (stop f n) go r cells pool h k e = absurd (never (r .step) e k)
 
-no-further : (t : LineTaken) (go : Draft → Result) (r : Stepped) (cells pool : List ℕ) {f : TextFault} {n : ℕ} → Took t r cells pool → r .step ≡ Stop f n
-    → goOn t go ≡ refused f n
+no-further : (l : List ℕ) (t : LineTaken) (go : Draft → Result) (r : Stepped) (cells pool : List ℕ) {f : TextFault} {n : ℕ} → Took t r cells pool
+    → r .step ≡ Stop f n → goOn l t go ≡ refused f n (columnIn l f)
 unfolding goOn
-no-further (going st) go r cells pool k e = absurd (never (r .step) (k .0) e)
-no-further (stop f n) go r cells pool k e = cc
+no-further l (going st) go r cells pool k e = absurd (never (r .step) (k .0) e)
+no-further l (stop f n) go r cells pool k e = cc
 
 module _ {s : List ℕ} {w : Work} {row from : ℕ} {cells pool : List ℕ} where
   -- no line is left
@@ -160,8 +163,8 @@ module _ {s : List ℕ} {w : Work} {row from : ℕ} {cells pool : List ℕ} wher
         go false t = text-ends s from e begun (ltb-false e (length s) t) (x .upto) (g .text) clean
 
     -- "line over 127": so many bytes and no LF, nor one among sixteen more
-    pub overlong : clearFrom s m ≡ true → lineLimit < m - from → compiled s ≡ answered (refused LineTooLong row)
-    unfolding fold takeLine goOn
+    pub overlong : clearFrom s m ≡ true → lineLimit < m - from → compiled s ≡ answered (refused LineTooLong row (lineLimit + 1))
+    unfolding fold takeLine goOn columnIn
     overlong h k =
         let f = g .folding in
         let q = passed h in
@@ -180,7 +183,7 @@ module _ {s : List ℕ} {w : Work} {row from : ℕ} {cells pool : List ℕ} wher
     in-line = subst AllInLine lines (in-lines s from bytes) .0
 
     line-whole : compiled s
-        ≡ answered (goOn (takeLine row (g .folding .st) (part s from behind)) (λ st₁. fold stretchOf (linesOf (drop (e + 1) s)) (row + 1) st₁))
+        ≡ answered (goOn (part s from behind) (takeLine row (g .folding .st) (part s from behind)) (λ st₁. fold stretchOf (linesOf (drop (e + 1) s)) (row + 1) st₁))
     unfolding fold
     line-whole = g .folding .whole ∙ ap (λ (ls : List (List ℕ)). answered (fold stretchOf ls row (g .folding .st))) lines
 
@@ -192,29 +195,33 @@ module _ {s : List ℕ} {w : Work} {row from : ℕ} {cells pool : List ℕ} wher
       pub goes-on : r .step ≡ Going → Folding s (r .work) (row + 1) (e + 1) cells′ pool′
       goes-on k =
           let t : LineTaken = takeLine row (g .folding .st) (part s from behind) in
-          let o = onward t (λ st₁. fold stretchOf (linesOf (drop (e + 1) s)) (row + 1) st₁) r cells′ pool′ (line-on row (g .folding .st) (part s from behind) in-line (g .folding .sound)) found k in
+          let o = onward (part s from behind) t (λ st₁. fold stretchOf (linesOf (drop (e + 1) s)) (row + 1) st₁) r cells′ pool′ (line-on row (g .folding .st) (part s from behind) in-line (g .folding .sound)) found k in
           record { st = o .st; sound = o .sound; stands = o .stands; rows = omega (arith, g .folding .rows, g .begun); whole = line-whole ∙ ap answered (o .is) }
 
-      pub refuses : {f : TextFault} {n : ℕ} → r .step ≡ Stop f n → compiled s ≡ answered (refused f n)
-      refuses k = line-whole ∙ ap answered (no-further (takeLine row (g .folding .st) (part s from behind)) _ r cells′ pool′ found k)
+      pub short : {f : TextFault} {n : ℕ} → r .step ≡ Stop f n → f ≡ BadRest → length (part s from behind) ≤ lineLimit
+      short k b = bad-rest-short row (g .folding .st) (part s from behind) r cells′ pool′ found k b
+
+      pub refuses : {f : TextFault} {n : ℕ} → r .step ≡ Stop f n → compiled s ≡ answered (refused f n (columnIn (part s from behind) f))
+      refuses k = line-whole ∙ ap answered (no-further (part s from behind) (takeLine row (g .folding .st) (part s from behind)) _ r cells′ pool′ found k)
 
 -- ---- after the loop over the lines
 
-pub all-taken : {s : List ℕ} {w : Work} {row from : ℕ} {cells pool : List ℕ} (r : Stepped) (cells′ pool′ : List ℕ) → Folding s w row from cells pool
-    → length s ≤ from → r .work ≡ w → cells′ ≡ cells → pool′ ≡ pool → r .step ≡ Going → Answered s r cells′ pool′
-all-taken r cells′ pool′ f h x a b e =
-    record {
-      none = λ _. record { st = f .st; sound = f .sound; stands = rw (x, a, b) (f .stands); whole = ended f h };
-      some = λ g n k. absurd (never (r .step) e k);
-    }
+module _ {s : List ℕ} (loops ends settings cells pool : List ℕ) (r : Taken) where
+  pub all-taken : {row from : ℕ} → Folding s (workOf (r .work) loops ends settings) row from cells pool → length s ≤ from → r .step ≡ Going
+      → Answered s loops ends settings cells pool r
+  all-taken f h e =
+      record {
+        none = λ _. record { st = f .st; sound = f .sound; stands = f .stands; whole = ended f h };
+        some = λ g n k. absurd (never (r .step) e k);
+      }
 
-pub at-fault : {s : List ℕ} (r : Stepped) (cells pool : List ℕ) (f : TextFault) (n : ℕ) → r .step ≡ Stop f n → compiled s ≡ answered (refused f n)
-    → Answered s r cells pool
-at-fault r cells pool f n e c =
-    record {
-      none = λ k. absurd (never (r .step) k e);
-      some = λ g m k. let z : refused f n ≡ refused g m = cc in c ∙ ap answered z;
-    }
+  pub at-fault : (f : TextFault) (row column : ℕ) → r .step ≡ Stop f row → r .column ≡ column → compiled s ≡ answered (refused f row column)
+      → Answered s loops ends settings cells pool r
+  at-fault f row column e d c =
+      record {
+        none = λ k. absurd (never (r .step) k e);
+        some = λ g n k. let same : refused f row column ≡ refused g n (r .column) = cc in c ∙ ap answered same;
+      }
 
 -- the loops that are left open have their places
 pub deep : {s : List ℕ} {w : Work} {cells pool : List ℕ} → Ended s w cells pool → w .opened ≤ loopLimit

@@ -1,17 +1,19 @@
 -- A LINE IS TAKEN as the definition takes it: a law for each way on. Assumes nothing.
 use Prim.Native.Nat.{ℕ, _+_, _≤_, _<_}
 use mathlib.Core.Path.{_≡_, refl, sym, ap, _∙_}
-use mathlib.Core.Bool.{true, false}
+use mathlib.Core.Bool.{Bool, true, false}
 use mathlib.Core.List.{List}
 use native.Mathlib.Omega.{arith}
+use lib.Dec.{ltb}
 use lib.ListN.{length}
 use lib.Seq.{sets}
-use borrow.Author.Tests.{lt-ltb, le-ltb}
+use borrow.Author.Tests.{ltb-false, lt-ltb, le-ltb}
 use Rattle.reader.specs.Bytes.{all}
 use Rattle.line_values.specs.declared.Line.{Line}
 use Rattle.line_values.specs.inside.Line.{lineFrom, dataFrom}
 use Rattle.line_meaning.specs.inside.Line.{meaningIn, lineOf, lineData}
-use Rattle.language.specs.declared.TextFault.the-variants.{LineTooLong, TooManyLines}
+use Rattle.language.specs.declared.TextFault.{TextFault}
+use Rattle.language.specs.declared.TextFault.the-variants.{LineTooLong, TooManyLines, BadRest}
 use Rattle.language.specs.Limits.{lineLimit, linesLimit, sendRoom}
 use Rattle.language.specs.inside.Right.{omitRoom, meaningRight}
 use Rattle.language.specs.Script.{Meaning, comment, blank, process, setEx, says, setEncode, setStopbits, setOmit, setLfext, fault}
@@ -86,6 +88,19 @@ pub long-stop : (row : ℕ) (l : List ℕ) (w : Work) (cells pool : List ℕ) (r
     → Lines row l w cells pool r cells pool
 unfolding takeLine
 long-stop row l w cells pool r k e st h = rw (lt-ltb lineLimit (length l) k) e
+
+-- a line whose rest is wrong is not too long: 1 comes before 4
+pub bad-rest-short : (row : ℕ) (st : Draft) (l : List ℕ) (r : Stepped) (cells pool : List ℕ) {f : TextFault} {n : ℕ} → Took (takeLine row st l) r cells pool
+    → r .step ≡ Stop f n → f ≡ BadRest → length l ≤ lineLimit
+unfolding takeLine
+bad-rest-short row st l r cells pool k e b = go (ltb lineLimit (length l)) refl
+  where
+    go : (t : Bool) → ltb lineLimit (length l) ≡ t → length l ≤ lineLimit
+    go false t = ltb-false lineLimit (length l) t
+    go true t =
+        let x : r .step ≡ Stop LineTooLong row = rw t at k in
+        let z : _≡_ {A = ℕ} 0 1 = cc in
+        absurd (omega arith)
 
 module _ (l : List ℕ) (short : length l ≤ lineLimit) {said : Line} (told : said ≡ lineOf l) where
   says-meaning : said ≡ lineFrom (meaning l)

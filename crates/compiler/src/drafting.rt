@@ -68,6 +68,13 @@ pub struct Drafted {
     pub work: Drafting,
 }
 
+/// What the lines come to: the step that they end with, the column of its fault, and the work.
+pub struct Taken {
+    pub step: Step,
+    pub column: u32,
+    pub work: Drafting,
+}
+
 /// What a statement needs: room for so many bytes of data, a loop to be opened, a loop to be closed, or nothing.
 pub enum Needs {
     Sending(u16),
@@ -151,8 +158,8 @@ pub(crate) fn heads_in(work: Drafting, ends: &Ends, settings: &Settings) -> Head
 }
 
 /// A refusal, with a table of zeros.
-pub(crate) fn refusal(fault: TextFault, row: u32) -> Compiled
-    ensures { λ r. ⌜ r ≡ answered (refused fault row) ⌝ }
+pub(crate) fn refusal(fault: TextFault, row: u32, column: u32) -> Compiled
+    ensures { λ r. ⌜ r ≡ answered (refused fault row column) ⌝ }
 {
     let heads = Heads {
         processes: 0,
@@ -170,6 +177,6 @@ pub(crate) fn refusal(fault: TextFault, row: u32) -> Compiled
         pool: [0u8; POOL_PLACES],
         heads,
     };
-    let answer = Answer::Refused(fault, row);
+    let answer = Answer::Refused(fault, row, column);
     Compiled { answer, table }
 }

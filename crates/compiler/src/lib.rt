@@ -7,6 +7,7 @@ use language::Compiled;
 use language::TEXT;
 use language::TextFault;
 
+mod columns;
 mod drafting;
 pub mod faults;
 mod feeds;
@@ -14,12 +15,12 @@ mod lines;
 mod needs;
 mod steps;
 
-/// The table of a script, with the largest stretch of any process; or the first fault, with the line that it names.
+/// The table of a script, with the largest stretch of any process; or the first fault, with the line that it names and the column.
 pub fn compile(text: &[u8]) -> Compiled
     ensures { λ r. ⌜ r ≡ compiled (now (text .entry)) ⌝ }
 {
     if TEXT < text.len() {
-        return refusal(TextFault::TextTooLong, 0);
+        return refusal(TextFault::TextTooLong, 0, 0);
     }
     take_text(text)
 }

@@ -15,12 +15,15 @@ ghost use Rattle.compiler.specs.inside.Drafting.{workOf, steppedTo, scri
 ghost use Rattle.compiler.specs.inside.Ending.{Nests, Answered};
 ghost use Rattle.compiler.specs.inside.NoLines.{noLines};
 ghost use Rattle.compiler.specs.inside.Text.{part};
+use crate::columns::OVERLONG;
+use crate::columns::column_in;
 use crate::drafting::Drafted;
 use crate::drafting::Drafting;
 use crate::drafting::Ends;
 use crate::drafting::Loops;
 use crate::drafting::Settings;
 use crate::drafting::Step;
+use crate::drafting::Taken;
 use crate::drafting::going;
 use crate::drafting::heads_in;
 use crate::drafting::is_comment;
@@ -105,7 +108,7 @@ fn never() -> Compiled
     requires { ⌜ ⊥ ⌝ }
     ensures { λ r. ⌜ ⊥ ⌝ }
 {
-    refusal(TextFault::LoopLeftOpen, 0)
+    refusal(TextFault::LoopLeftOpen, 0, 0)
 }
 
 // The end of the text. "loop open at .. the end of text", "stretch over 4,096".
@@ -127,7 +130,7 @@ fn finish(
     let opened = work.opened as usize;
     if 0 < opened {
         let innermost = loops[opened - 1];
-        return refusal(TextFault::LoopLeftOpen, innermost);
+        return refusal(TextFault::LoopLeftOpen, innermost, 1);
     }
     let heads = heads_in(work, ends, settings);
     match largest(cells, heads) {
@@ -140,13 +143,13 @@ fn finish(
             let answer = Answer::Accepted(stretch);
             Compiled { answer, table }
         }
-        Measured::Over(number) => refusal(TextFault::StretchTooLong, number),
+        Measured::Over(number) => refusal(TextFault::StretchTooLong, number, 0),
         // The loops of every draft nest.
         Measured::Broken => never(),
     }
 }
 
-// The lines one after the other, sixteen bytes at a time up to the LF; the first fault ends both loops.
+// The lines one after the other, sixteen bytes at a time up to the LF; the first fault ends both loops, with its column.
 fn take_each(
     text: &[u8],
     loops: &mut Loops,
@@ -154,15 +157,16 @@ fn take_each(
     settings: &mut Settings,
     cells: &mut Cells,
     pool: &mut Pool,
-) -> Drafted
+) -> Taken
     requires { ⌜ (length (now text) ≤ textLimit)
         × IsDraft start (workOf noLines (now loops) (now ends) (now settings)) (now cells) (now pool) ⌝ }
-    ensures { λ r. ⌜ Answered (now (text .entry)) (steppedTo r (now (loops .exit)) (now (ends .exit))
-        (now (settings .exit))) (now (cells .exit)) (now (pool .exit)) ⌝ }
+    ensures { λ r. ⌜ Answered (now (text .entry)) (now (loops .exit)) (now (ends .exit)) (now (settings .exit))
+        (now (cells .exit)) (now (pool .exit)) r ⌝ }
 {
     let mut lent = [0u8; ROOM];
     let mut work = no_lines();
     let mut step = Step::Going;
+    let mut column = 0u32;
     let mut row = 1u32;
     let mut start = 0usize;
     'lines: while start < text.len() {
@@ -170,6 +174,7 @@ fn take_each(
         while no_feed(text, clear) {
             if LINE < clear - start {
                 step = Step::Stop(TextFault::LineTooLong, row);
+                column = OVERLONG;
                 break 'lines;
             }
             clear += 16;
@@ -189,16 +194,15 @@ fn take_each(
             pool,
         );
         step = taken.step;
-        match step {
-            Step::Going => {
-                work = taken.work;
-                row += 1;
-                start = end + 1;
-            }
-            Step::Stop(_, _) => break 'lines,
+        if let Step::Stop(fault, _) = step {
+            column = column_in(line, fault);
+            break 'lines;
         }
+        work = taken.work;
+        row += 1;
+        start = end + 1;
     }
-    Drafted { step, work }
+    Taken { step, column, work }
 }
 
 // The lines and what they come to, in arrays that begin as zeros.
@@ -222,7 +226,7 @@ fn take_lines(text: &[u8]) -> Compiled
     let step = taken.step;
     match step {
         Step::Going => finish(&cells, &pool, taken.work, &loops, &ends, &settings),
-        Step::Stop(fault, line) => refusal(fault, line),
+        Step::Stop(fault, line) => refusal(fault, line, taken.column),
     }
 }
 

@@ -2,6 +2,7 @@
 pub mod Moved
 pub mod Final
 pub mod Runs
+pub mod HexPlace
 -- the states of the loops
 pub mod Pairs
 pub mod Stepping

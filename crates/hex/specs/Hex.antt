@@ -1,7 +1,7 @@
 -- Hex data. "`:` sends hex bytes, digits of either case, spaces and tabs as separators, a run of digits cut in twos"; and No. 5: "a lone
 -- digit between separators as a byte"; "A longer run is cut in twos and an odd last digit is a byte."
 use Prim.Native.Nat.{ℕ, _+_, _*_}
-use mathlib.Core.Bool.{cond}
+use mathlib.Core.Bool.{Bool, true, false, cond}
 use mathlib.Core.List.{List, [], _∷_}
 use lib.ListN.{length, drop}
 use lib.Seq.{sets}
@@ -49,6 +49,16 @@ hexGo (b ∷ rest) half at = afterStep at (stepOf half b) (hexGo rest 16 (at + 1
 unfoldable pub hexAt : List ℕ → ℕ → Said
 hexAt s at = hexGo (drop at s) 16 at
 
+-- No. 3: "the place of the first byte they can't take", or `end` where all can be taken
+unfoldable pub saidPlace : ℕ → Said → ℕ
+saidPlace end (good bs) = end
+saidPlace end (bad at) = at
+
+-- and whether all can be taken
+abbrev pub isGood : Said → Bool
+isGood (good bs) = true
+isGood (bad at) = false
+
 -- how many bytes data are, `n` having been counted before
 unfoldable pub counted : ℕ → Said → HexCount
 counted n (good bs) = Of (n + length bs)
@@ -79,3 +89,13 @@ hexByteOf (a ∷ rest) at = cond (ltb (digitOf a) 16) (hexSecond (digitOf a) res
 -- the byte at a place
 unfoldable pub hexByteAt : List ℕ → ℕ → Number
 hexByteAt s at = hexByteOf (drop at s) at
+
+-- No. 3: the place of the byte that is no digit, or `end`, since "more is ignored"
+unfoldable pub bytePlace : ℕ → Number → ℕ
+bytePlace end (Value b next) = end
+bytePlace end (Bad at) = at
+
+-- and whether there is a digit
+abbrev pub isByteRead : Number → Bool
+isByteRead (Value b next) = true
+isByteRead (Bad at) = false

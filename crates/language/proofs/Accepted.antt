@@ -15,7 +15,7 @@ use Rattle.language.specs.Limits.{textLimit}
 use Rattle.language.specs.Script.{Statement, Item, Script, processes}
 use Rattle.language.specs.Listing.{bodyLines, settingLines, listedLines}
 use Rattle.language.specs.Right.{isByte, nests, allBelow}
-use Rattle.language.specs.Draft.{Result, accepted, refused, Draft, start, LineTaken, going, stop, takeLine, stretched, finished, goOn, fold, resultOf}
+use Rattle.language.specs.Draft.{Result, accepted, refused, Draft, start, LineTaken, going, stop, takeLine, stretched, finished, goOn, refusedWhole, fold, resultOf}
 use Rattle.language.proofs.Good.{Good}
 use Rattle.language.proofs.Cutting.{AllInLine, text-lines}
 use Rattle.language.proofs.Sound.{Holds, line-on, start-sound}
@@ -24,13 +24,13 @@ use Rattle.language.proofs.SoundBody.{Sound, needs-listed}
 module _ (stretch : List Statement → ℕ) where
   abbrev Ends : Result → Type 0
   Ends (accepted s) = Good stretch s
-  Ends (refused n row) = Unit {0}
+  Ends (refused n row column) = Unit {0}
 
   stretched-good : (ps : List (List Statement)) (n : ℕ) (s : Script) → (allBelow stretch ps ≡ true → Good stretch s) → Ends (stretched stretch ps n s)
   unfolding stretched allBelow
   stretched-good [] n s f = f refl
   stretched-good (p ∷ ps) n s f =
-      by-cases Ends (leb (stretch p) limit) (stretched stretch ps (n + 1) s) (refused StretchTooLong n)
+      by-cases Ends (leb (stretch p) limit) (stretched stretch ps (n + 1) s) (refusedWhole StretchTooLong n)
       (λ e. stretched-good ps (n + 1) s (λ h. f (both (leb (stretch p) limit) (allBelow stretch ps) e h)))
       (λ e. tt)
 
@@ -58,21 +58,21 @@ module _ (stretch : List Statement → ℕ) where
       go (l ∷ ls) e = tt
       go [] e = stretched-good (processes (st .body)) 1 (scriptOf st) (λ b. whole-good st i e b)
 
-  after-good : (t : LineTaken) (go : Draft → Result) → Holds t → ((st : Draft) → Sound 0 st → Ends (go st)) → Ends (goOn t go)
+  after-good : (l : List ℕ) (t : LineTaken) (go : Draft → Result) → Holds t → ((st : Draft) → Sound 0 st → Ends (go st)) → Ends (goOn l t go)
   unfolding goOn
-  after-good (going st) go h f = f st h
-  after-good (stop n row) go h f = tt
+  after-good l (going st) go h f = f st h
+  after-good l (stop n row) go h f = tt
 
   fold-good : (ls : List (List ℕ)) (row : ℕ) (st : Draft) → AllInLine ls → Sound 0 st → Ends (fold stretch ls row st)
   unfolding fold
   fold-good [] row st p i = finished-good st i
   fold-good (l ∷ ls) row st p i =
-      after-good (takeLine row st l) (λ st₁. fold stretch ls (row + 1) st₁) (line-on row st l (p .0) i) (λ st₁ i₁. fold-good ls (row + 1) st₁ (p .1) i₁)
+      after-good l (takeLine row st l) (λ st₁. fold stretch ls (row + 1) st₁) (line-on row st l (p .0) i) (λ st₁ i₁. fold-good ls (row + 1) st₁ (p .1) i₁)
 
   pub accepted-good : (t : List ℕ) → all isByte t ≡ true → Ends (resultOf stretch t)
   unfolding resultOf
   accepted-good t h =
-      by-cases Ends (leb (length t) textLimit) (fold stretch (linesOf t) 1 start) (refused TextTooLong 0)
+      by-cases Ends (leb (length t) textLimit) (fold stretch (linesOf t) 1 start) (refusedWhole TextTooLong 0)
       (λ e. fold-good (linesOf t) 1 start (text-lines t h) start-sound) (λ e. tt)
 
   -- what a text is resultOf to is right

@@ -1,5 +1,5 @@
 -- A clock value is read back. Assumes nothing.
-use Prim.Native.Nat.{ℕ, suc, _*_, _≤_, _<_}
+use Prim.Native.Nat.{ℕ, suc, _+_, _*_, _≤_, _<_}
 use mathlib.Core.Path.{_≡_, refl, sym, ap}
 use mathlib.Core.Bool.{true}
 use mathlib.Core.List.{List, [], _∷_}
@@ -8,7 +8,6 @@ use lib.Dec.{leb}
 use lib.ListN.{length}
 use borrow.Author.Tests.{leb-true}
 use Rattle.reader.specs.Bytes.{same}
-use Rattle.numbers.specs.Number.{pairAt}
 use Rattle.hex.specs.Hex.{good, byteBefore}
 use Rattle.writer.specs.Put.{twoDigits}
 use Rattle.reader.proofs.Tests.{both-left, both-right, true-is-false, Every}
@@ -52,21 +51,21 @@ in-length (r ∷ rs) [] h = true-is-false (sym h)
 in-length (r ∷ rs) (v ∷ vs) h = ap suc (in-length rs vs (both-right (within r v) (inRanges rs vs) h))
 
 -- values in their ranges are what fills the ranges
-fill-back : (rs : List Range) (vs : List ℕ) → Low rs → inRanges rs vs ≡ true → fill rs (inTwos vs) ≡ good vs
-unfolding inRanges fill inTwos twoDigits same pairAt valueBefore byteBefore
-fill-back [] [] l h = refl
-fill-back [] (v ∷ vs) l h = cc
-fill-back (r ∷ rs) [] l h = cc
-fill-back (r ∷ rs) (v ∷ vs) l h =
+fill-back : (rs : List Range) (vs : List ℕ) → Low rs → inRanges rs vs ≡ true → (at : ℕ) → fill rs (inTwos vs) at ≡ good vs
+unfolding inRanges fill inTwos twoDigits same valueBefore byteBefore
+fill-back [] [] l h at = refl
+fill-back [] (v ∷ vs) l h at = cc
+fill-back (r ∷ rs) [] l h at = cc
+fill-back (r ∷ rs) (v ∷ vs) l h at =
     let w : within r v ≡ true = both-left (within r v) (inRanges rs vs) h in
     let few : v < 100 = omega (arith, l .0, to-high r v w) in
-    rw (pair-back (r .low) (r .high) v (inTwos vs) 0 few (from-low r v w) (to-high r v w), fill-back rs vs (l .1) (both-right (within r v) (inRanges rs vs) h))
+    rw (pair-back (r .low) (r .high) v (inTwos vs) at few (from-low r v w) (to-high r v w), fill-back rs vs (l .1) (both-right (within r v) (inRanges rs vs) h) (at + 2))
 
 -- the pairs of digits that follow the letter of the first unit `r`
 from-back : (r : Range) (rs : List Range) (v : ℕ) (vs : List ℕ) → Low (r ∷ rs) → inRanges (r ∷ rs) (v ∷ vs) ≡ true
-    → from (r ∷ rs) (inTwos (v ∷ vs)) ≡ good (v ∷ vs)
+    → from (r ∷ rs) (inTwos (v ∷ vs)) 1 ≡ good (v ∷ vs)
 unfolding from inTwos twoDigits
-from-back r rs v vs l h = fill-back (r ∷ rs) (v ∷ vs) l h
+from-back r rs v vs l h = fill-back (r ∷ rs) (v ∷ vs) l h 1
 
 pub clock-back : (vs : List ℕ) → clockRight vs ≡ true → clockOf (clockText vs) ≡ good vs
 unfolding clockRight clockOf clockText clockLetter

@@ -4,8 +4,10 @@ pub mod Cells
 pub mod TableCells
 pub mod Tables
 pub mod Examples
+pub mod Columns
 pub mod Bytes
 pub mod Clocks
+pub mod ClockPlace
 pub mod Hexes
 pub mod LastDigit
 pub mod Back
@@ -27,3 +29,10 @@ pub mod Accepted
 pub mod Trip
 pub mod Numbers
 pub mod Words
+pub mod WordPlace
+pub mod LetterPlace
+pub mod TimePlace
+pub mod RestPlace
+pub mod DataPlace
+pub mod Column
+pub mod Inside

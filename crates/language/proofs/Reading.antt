@@ -9,7 +9,7 @@ use lib.Dec.{ltb, leb, eqb}
 use lib.ListN.{length, drop}
 use borrow.Author.Tests.{ltb-true, lt-ltb, leb-true}
 use Rattle.reader.specs.Bytes.{digitOf, isBlank, all, same}
-use Rattle.numbers.specs.Number.{digitsEnded, numberGo, numberAt, secondOf, pairOf, pairAt}
+use Rattle.numbers.specs.Number.{digitsEnded, numberGo, numberAt, secondOf, pairOf}
 use Rattle.hex.specs.Hex.{Said, byteBefore, stepOf, afterStep, hexGo, hexAt, hexSecond, hexByteOf, hexByteAt, good, bad}
 use Rattle.numbers.specs.declared.Number.{Number}
 use Rattle.numbers.specs.declared.Number.the-variants.{Value, Bad}
@@ -147,16 +147,16 @@ hex-byte-reads (a ∷ l) =
 
 -- ---- clock values
 
-pub pair-reads : (r : Range) (l : List ℕ) → Reads (λ v. within r v ≡ true) (pairAt (r .low) (r .high) l 0)
-unfolding pairAt pairOf secondOf within
-pair-reads r [] = tt
-pair-reads r (a ∷ []) =
-    by-cases (Reads (λ v. within r v ≡ true)) (ltb (digitOf a) 10 && (leb (r .low) (digitOf a * 10 + 9) && leb (digitOf a * 10) (r .high))) (Bad 1) (Bad 0)
+pub pair-reads : (r : Range) (l : List ℕ) (at : ℕ) → Reads (λ v. within r v ≡ true) (pairOf (r .low) (r .high) l at)
+unfolding pairOf secondOf within
+pair-reads r [] at = tt
+pair-reads r (a ∷ []) at =
+    by-cases (Reads (λ v. within r v ≡ true)) (ltb (digitOf a) 10 && (leb (r .low) (digitOf a * 10 + 9) && leb (digitOf a * 10) (r .high))) (Bad (at + 1)) (Bad at)
     (λ e. tt) (λ e. tt)
-pair-reads r (a ∷ b ∷ l) =
+pair-reads r (a ∷ b ∷ l) at =
     let v : ℕ = digitOf a * 10 + digitOf b in
-    by-cases (Reads (λ v. within r v ≡ true)) (ltb (digitOf a) 10 && (leb (r .low) (digitOf a * 10 + 9) && leb (digitOf a * 10) (r .high))) _ (Bad 0)
-    (λ e. by-cases (Reads (λ v. within r v ≡ true)) (ltb (digitOf b) 10 && within r v) (Value v 2) (Bad 1)
+    by-cases (Reads (λ v. within r v ≡ true)) (ltb (digitOf a) 10 && (leb (r .low) (digitOf a * 10 + 9) && leb (digitOf a * 10) (r .high))) _ (Bad at)
+    (λ e. by-cases (Reads (λ v. within r v ≡ true)) (ltb (digitOf b) 10 && within r v) (Value v (at + 1 + 1)) (Bad (at + 1))
     (λ e₁. both-right (ltb (digitOf b) 10) (within r v) e₁) (λ e₁. tt)) (λ e. tt)
 
 -- units that may be left out
@@ -178,11 +178,11 @@ unfolding valueBefore
 value-more r rs (Value v next) x h k = when-before (In rs) (In (r ∷ rs)) v x (in-more r rs v h) k
 value-more r rs (Bad at) x h k = tt
 
-fill-right : (rs : List Range) (l : List ℕ) → Zero rs → When (In rs) (fill rs l)
+fill-right : (rs : List Range) (l : List ℕ) (at : ℕ) → Zero rs → When (In rs) (fill rs l at)
 unfolding fill
-fill-right [] l z = by-cases (When (In [])) (same l []) (good []) (bad 0) (λ e. unfold In inRanges in refl) (λ e. tt)
-fill-right (r ∷ rs) [] z = when-before (In rs) (In (r ∷ rs)) 0 (fill rs []) (in-more r rs 0 (z .0)) (fill-right rs [] (z .1))
-fill-right (r ∷ rs) (b ∷ l) z = value-more r rs _ _ (pair-reads r (b ∷ l)) (fill-right rs (drop 1 l) (z .1))
+fill-right [] l at z = by-cases (When (In [])) (same l []) (good []) (bad at) (λ e. unfold In inRanges in refl) (λ e. tt)
+fill-right (r ∷ rs) [] at z = when-before (In rs) (In (r ∷ rs)) 0 (fill rs [] at) (in-more r rs 0 (z .0)) (fill-right rs [] at (z .1))
+fill-right (r ∷ rs) (b ∷ l) at z = value-more r rs _ _ (pair-reads r (b ∷ l) at) (fill-right rs (drop 1 l) (at + 2) (z .1))
 
 -- values in the ranges of the shortest units are a clock value
 Clock : List ℕ → Type 0
@@ -222,25 +222,25 @@ day-in (m ∷ s ∷ []) h = absurd (omega (arith, in-length dayOn (m ∷ s ∷ [
 day-in (o ∷ m ∷ s ∷ []) h = absurd (omega (arith, in-length dayOn (o ∷ m ∷ s ∷ []) h))
 day-in (d ∷ o ∷ m ∷ s ∷ more) h = h
 
-from-right : (r : Range) (rs : List Range) (l : List ℕ) → Zero rs → ((vs : List ℕ) → In rs vs → Clock vs) → ((vs : List ℕ) → In (r ∷ rs) vs → Clock vs)
-    → When Clock (from (r ∷ rs) l)
+from-right : (r : Range) (rs : List Range) (l : List ℕ) (at : ℕ) → Zero rs → ((vs : List ℕ) → In rs vs → Clock vs) → ((vs : List ℕ) → In (r ∷ rs) vs → Clock vs)
+    → When Clock (from (r ∷ rs) l at)
 unfolding from fill
-from-right r rs [] z f g = when-weaker (In rs) Clock (fill rs []) f (fill-right rs [] z)
-from-right r rs (b ∷ l) z f g =
-    when-weaker (In (r ∷ rs)) Clock (fill (r ∷ rs) (b ∷ l)) g (value-more r rs _ _ (pair-reads r (b ∷ l)) (fill-right rs (drop 1 l) z))
+from-right r rs [] at z f g = when-weaker (In rs) Clock (fill rs [] at) f (fill-right rs [] at z)
+from-right r rs (b ∷ l) at z f g =
+    when-weaker (In (r ∷ rs)) Clock (fill (r ∷ rs) (b ∷ l) at) g (value-more r rs _ _ (pair-reads r (b ∷ l) at) (fill-right rs (drop 1 l) (at + 2) z))
 
-hour-from : (l : List ℕ) → When Clock (from hourOn l)
+hour-from : (l : List ℕ) (at : ℕ) → When Clock (from hourOn l at)
 unfolding within
-hour-from l = from-right _ minuteOn l (refl, (refl, tt)) minute-in hour-in
+hour-from l at = from-right _ minuteOn l at (refl, (refl, tt)) minute-in hour-in
 
 clock-read : (l : List ℕ) → When Clock (clockOf l)
 unfolding clockOf within
-clock-read [] = hour-from []
+clock-read [] = hour-from [] 0
 clock-read (b ∷ l) =
-    by-cases (When Clock) (eqb b 68) _ _ (λ e. from-right _ hourOn l (refl, (refl, (refl, tt))) hour-in day-in)
-    (λ e. by-cases (When Clock) (eqb b 104) _ _ (λ e₁. hour-from l)
-    (λ e₁. by-cases (When Clock) (eqb b 109) _ _ (λ e₂. from-right _ secondOn l (refl, tt) second-in minute-in)
-    (λ e₂. by-cases (When Clock) (eqb b 115) _ _ (λ e₃. from-right _ [] l tt none-in second-in) (λ e₃. hour-from (b ∷ l)))))
+    by-cases (When Clock) (eqb b 68) _ _ (λ e. from-right _ hourOn l 1 (refl, (refl, (refl, tt))) hour-in day-in)
+    (λ e. by-cases (When Clock) (eqb b 104) _ _ (λ e₁. hour-from l 1)
+    (λ e₁. by-cases (When Clock) (eqb b 109) _ _ (λ e₂. from-right _ secondOn l 1 (refl, tt) second-in minute-in)
+    (λ e₂. by-cases (When Clock) (eqb b 115) _ _ (λ e₃. from-right _ [] l 1 tt none-in second-in) (λ e₃. hour-from (b ∷ l) 0))))
 
 pub clock-right : (l : List ℕ) → When (λ vs. clockRight vs ≡ true) (clockOf l)
 unfolding Clock

@@ -27,7 +27,7 @@ faultNumber StretchTooLong = 11
 -- a script is laid out and its stretch reported; "a table handed back by value with a refusal is all zeros"
 unfoldable pub answered : Result → Compiled
 answered (accepted s) = record { answer = Accepted (largest (s .body)); table = laidOut s }
-answered (refused f row) = record { answer = Refused f row; table = zeroTable }
+answered (refused f row column) = record { answer = Refused f row column; table = zeroTable }
 
 -- what a text comes to, the stretch of a process being that of its written-out form
 unfoldable pub scriptFrom : List ℕ → Result

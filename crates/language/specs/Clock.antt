@@ -1,12 +1,12 @@
 -- Document 01, "`#WAIT CLOCK`": clock values. A clock value is the list of the fixed units' values, the longest unit first: at most
--- day, hour, minute, second; empty where every second matches.
+-- day, hour, minute, second; empty where every second matches. No. 3: where it is wrong, the place of the first byte that cannot be taken.
 use Prim.Native.Nat.{ℕ, _+_}
 use mathlib.Core.Bool.{Bool, cond, _&&_}
 use mathlib.Core.List.{List, [], _∷_, _++_}
 use lib.ListN.{drop}
 use lib.Dec.{leb, eqb}
 use Rattle.reader.specs.Bytes.{same}
-use Rattle.numbers.specs.Number.{pairAt}
+use Rattle.numbers.specs.Number.{pairOf}
 use Rattle.hex.specs.Hex.{Said, byteBefore, good, bad}
 use Rattle.writer.specs.Put.{twoDigits}
 use Rattle.numbers.specs.declared.Number.{Number}
@@ -46,26 +46,26 @@ unfoldable pub valueBefore : Number → Said → Said
 valueBefore (Value v next) rest = byteBefore v rest
 valueBefore (Bad at) rest = bad at
 
--- "two digits for that unit and each shorter one, any of the last left out. Left-out shorter units are 00"
-unfoldable pub fill : List Range → List ℕ → Said
-fill [] l = cond (same l []) (good []) (bad 0)
-fill (r ∷ rs) [] = byteBefore 0 (fill rs [])
-fill (r ∷ rs) (b ∷ l) = valueBefore (pairAt (r .low) (r .high) (b ∷ l) 0) (fill rs (drop 1 l))
+-- "two digits for that unit and each shorter one, any of the last left out. Left-out shorter units are 00"; from the place `at` on
+unfoldable pub fill : List Range → List ℕ → ℕ → Said
+fill [] l at = cond (same l []) (good []) (bad at)
+fill (r ∷ rs) [] at = byteBefore 0 (fill rs [] at)
+fill (r ∷ rs) (b ∷ l) at = valueBefore (pairOf (r .low) (r .high) (b ∷ l) at) (fill rs (drop 1 l) (at + 2))
 
 -- "with no digits the first unit matches all too"
-unfoldable pub from : List Range → List ℕ → Said
-from [] l = bad 0
-from (r ∷ rs) [] = fill rs []
-from (r ∷ rs) (b ∷ l) = fill (r ∷ rs) (b ∷ l)
+unfoldable pub from : List Range → List ℕ → ℕ → Said
+from [] l at = bad at
+from (r ∷ rs) [] at = fill rs [] at
+from (r ∷ rs) (b ∷ l) at = fill (r ∷ rs) (b ∷ l) at
 
 -- "unit D, h, m or s (none is h)"
 unfoldable pub clockOf : List ℕ → Said
-clockOf [] = from hourOn []
+clockOf [] = from hourOn [] 0
 clockOf (b ∷ l) =
-    cond (eqb b 68) (from dayOn l)
-    (cond (eqb b 104) (from hourOn l)
-    (cond (eqb b 109) (from minuteOn l)
-    (cond (eqb b 115) (from secondOn l) (from hourOn (b ∷ l)))))
+    cond (eqb b 68) (from dayOn l 1)
+    (cond (eqb b 104) (from hourOn l 1)
+    (cond (eqb b 109) (from minuteOn l 1)
+    (cond (eqb b 115) (from secondOn l 1) (from hourOn (b ∷ l) 0))))
 
 -- "the first fixed unit and every shorter one in full, or `s`"
 unfoldable pub inTwos : List ℕ → List ℕ

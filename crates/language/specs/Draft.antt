@@ -12,11 +12,12 @@ use Rattle.language.specs.Limits.{textLimit, lineLimit, linesLimit, data
 use Rattle.language.specs.Lines.{linesOf}
 use Rattle.language.specs.Script.{Statement, Meaning, comment, blank, process, setEx, says, setEncode, setStopbits, setOmit, setLfext, fault, byte, Settings, settings, default, Item, does, next, Script, processes, Shape, opens, closes, stays, shape, dataOf}
 use Rattle.language.specs.Meaning.{meaning}
+use Rattle.language.specs.Column.{columnIn}
 
--- what a text comes to: a script, or a fault with the line that it names
+-- what a text comes to: a script, or a fault with the line that it names and the column in it
 pub data Result : Type 0 where
   accepted : Script → Result
-  refused : TextFault → ℕ → Result
+  refused : TextFault → ℕ → ℕ → Result
 
 -- what the lines so far have used up
 pub record Draft : Type 0 where
@@ -140,27 +141,31 @@ takeLine row st l =
     cond (ltb lineLimit (length l)) (stop LineTooLong row)
     (cond (isComment (meaning l)) (going st) (takeCounted row st (meaning l)))
 
--- a fault ends the fold
-unfoldable pub goOn : LineTaken → (Draft → Result) → Result
-goOn (going st) go = go st
-goOn (stop n row) go = refused n row
+-- a fault ends the fold: it was found at the line `l`
+unfoldable pub goOn : List ℕ → LineTaken → (Draft → Result) → Result
+goOn l (going st) go = go st
+goOn l (stop n row) go = refused n row (columnIn l n)
+
+-- a fault of the text as a whole, which was found at none of its lines
+abbrev pub refusedWhole : TextFault → ℕ → Result
+refusedWhole n row = refused n row (columnIn [] n)
 
 -- "stretch over 4,096: lowest process number, from 1, in place of a line" 11: the stretch of a process is given
 module _ (stretch : List Statement → ℕ) where
   unfoldable pub stretched : List (List Statement) → ℕ → Script → Result
   stretched [] number s = accepted s
-  stretched (p ∷ ps) number s = cond (leb (stretch p) limit) (stretched ps (number + 1) s) (refused StretchTooLong number)
+  stretched (p ∷ ps) number s = cond (leb (stretch p) limit) (stretched ps (number + 1) s) (refusedWhole StretchTooLong number)
 
   -- "The end of the text comes after all lines, 11 last"
   unfoldable pub finished : Script → List ℕ → Result
   finished s [] = stretched (processes (s .body)) 1 s
-  finished s (l ∷ ls) = refused LoopLeftOpen l
+  finished s (l ∷ ls) = refusedWhole LoopLeftOpen l
 
   -- the lines one after the other, `row` being the number of the next
   unfoldable pub fold : List (List ℕ) → ℕ → Draft → Result
   fold [] row st = finished (record { settings = st .settings; body = st .body }) (st .loops)
-  fold (l ∷ ls) row st = goOn (takeLine row st l) (λ st₁. fold ls (row + 1) st₁)
+  fold (l ∷ ls) row st = goOn l (takeLine row st l) (λ st₁. fold ls (row + 1) st₁)
 
   -- "text over 65,536 bytes (line 0)" 12
   unfoldable pub resultOf : List ℕ → Result
-  resultOf s = cond (leb (length s) textLimit) (fold (linesOf s) 1 start) (refused TextTooLong 0)
+  resultOf s = cond (leb (length s) textLimit) (fold (linesOf s) 1 start) (refusedWhole TextTooLong 0)

@@ -5,6 +5,7 @@ pub mod Lines
 pub mod Clock
 pub mod Script
 pub mod Meaning
+pub mod Column
 pub mod Stretch
 pub mod Draft
 pub mod Listing

@@ -6,19 +6,12 @@ use lib.ListN.{length}
 use lib.Dec.{ltb, leb, eqb}
 use Rattle.figures.specs.Cap.{limit}
 use Rattle.reader.specs.Bytes.{all, same}
+unfoldable pub use Rattle.reader.specs.Bytes.{isByte, inLine}
 use Rattle.language.specs.Limits.{linesLimit, dataLimit, omitLimit, loopLimit, processLimit, sendRoom, waitRoom, logRoom}
 use Rattle.language.specs.Clock.{Range, within, secondOn, minuteOn, hourOn, dayOn}
 use Rattle.language.specs.Script.{Statement, send, loop, end, waitTime, waitData, waitByte, waitClock, waitSignal, rts, log, fchange, pause, resume, nop, Encode, unset, byte, Settings, Item, does, next, Script, processes, Shape, opens, closes, stays, shape, dataOf}
 use Rattle.language.specs.Meaning.{signs, extension}
 use Rattle.language.specs.Listing.{lastInOne, listedLines}
-
--- a byte is below 256
-unfoldable pub isByte : ℕ → Bool
-isByte b = ltb b 256
-
--- a byte that a line can hold: LF ends it
-unfoldable pub inLine : ℕ → Bool
-inLine b = isByte b && not (eqb b 10)
 
 -- data that a line has room for: in hex, the last byte in one digit if need be, or, with no LF among them, as text
 unfoldable pub dataRight : ℕ → List ℕ → Bool

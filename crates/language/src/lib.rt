@@ -155,10 +155,10 @@ pub enum TextFault {
 }
 
 // The compiler's answer: the largest stretch of any process; or a fault, with the line that it names, the process for
-// StretchTooLong, 0 for TextTooLong.
+// StretchTooLong, 0 for TextTooLong, and the column in that line, from 1, 0 for both of these.
 pub enum Answer {
     Accepted(u32),
-    Refused(TextFault, u32),
+    Refused(TextFault, u32, u32),
 }
 
 // The answer and the table, which is all zeros with a refusal.

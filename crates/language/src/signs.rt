@@ -4,7 +4,7 @@ ghost use mathlib.Core.Bool.{false};
 ghost use Rattle.language.specs.Meaning.{isSign, signs};
 
 // Whether a byte may follow `@`.
-fn is_sign(b: u8) -> bool
+pub fn is_sign(b: u8) -> bool
     ensures { λ r. ⌜ r ≡ isSign b ⌝ }
 {
     match b {

@@ -5,7 +5,7 @@ use mathlib.Core.Path.{_≡_, refl, sym, ap, _∙_}
 use mathlib.Core.Bool.{Bool, true, false, cond}
 use mathlib.Core.List.{List, [], _∷_}
 use Rattle.reader.specs.Bytes.{isBlank, all, same}
-use Rattle.reader.proofs.Same.{same-is, is-same}
+use Rattle.reader.proofs.Same.{same-is, flipped}
 use Rattle.reader.proofs.Tests.{true-is-false}
 use Rattle.language.specs.declared.TextFault.the-variants.{NoSuchName, BadRest}
 use Rattle.language.specs.Script.{Meaning, fault}
@@ -17,14 +17,6 @@ use Rattle.line_values.specs.inside.Bare.{bareLine}
 use Rattle.line_meaning.specs.inside.Names.{only}
 
 -- ---- a name
-
-flipped : (a b : List ℕ) (t : Bool) → same a b ≡ t → same b a ≡ t
-flipped a b true e = is-same (sym (same-is a b e))
-flipped a b false e = go (same b a) refl
-  where
-    go : (t : Bool) → same b a ≡ t → t ≡ false
-    go true f = sym (is-same (sym (same-is b a f))) ∙ e
-    go false f = refl
 
 -- `t` is what the code has been told of a name
 pub is-it : (es : List Entry) (w name rest : List ℕ) {t : Bool} → t ≡ same w name → t ≡ true → lookup es w rest ≡ lookup es name rest

@@ -8,6 +8,7 @@ use lib.Dec.{ltb, leb}
 use lib.ListN.{length, getD}
 use borrow.Author.Tests.{lt-leb}
 use Rattle.reader.specs.Bytes.{all}
+use Rattle.reader.proofs.Tests.{and-false}
 use Rattle.language.specs.declared.TextFault.the-variants.{BadRest}
 use Rattle.language.specs.Meaning.{isCapital, raised, raise, extension, lfextOf}
 use Rattle.line_values.specs.declared.Letters.{Letters}
@@ -25,10 +26,6 @@ raise-length (b ∷ l) = ap suc (raise-length l)
 no-extension : (a : List ℕ) → extension (raise a) ≡ false → Faulty BadRest ≡ lineFrom (lfextOf a)
 unfolding lfextOf lineFrom
 no-extension a e = rw e
-
-and-false : (t : Bool) → (t && false) ≡ false
-and-false true = refl
-and-false false = refl
 
 pub no-letter : (a : List ℕ) → length a ≡ 0 → Faulty BadRest ≡ lineFrom (lfextOf a)
 unfolding extension raise

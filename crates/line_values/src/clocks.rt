@@ -6,7 +6,7 @@ ghost use Rattle.language.specs.Clock.{range, secondOn, minuteOn, hourOn, dayOn
 ghost use Rattle.language.specs.Cell.{clock};
 ghost use Rattle.language.specs.Meaning.{clockSays};
 ghost use Rattle.line_values.specs.inside.Line.{lineFrom};
-ghost use Rattle.line_values.specs.inside.ClockUnits.{unitAt, clockLine, secondIn, minuteIn, hourIn};
+ghost use Rattle.line_values.specs.inside.ClockUnits.{unitAt, clockPart, clockRead, secondIn, minuteIn, hourIn};
 use crate::Line;
 use language::Cell;
 use language::Clock;
@@ -17,6 +17,12 @@ use numbers::decimal::pair;
 // A value of a clock's unit, or the place of the first byte that cannot be taken.
 enum UnitValue {
     Of(u8),
+    Bad(usize),
+}
+
+// A clock value, or the place of the first byte that cannot be taken.
+pub enum ClockRead {
+    Of(Clock),
     Bad(usize),
 }
 
@@ -47,116 +53,131 @@ fn unit(digits: &[u8], at: usize, low: u8, high: u8) -> UnitValue
 }
 
 // The second, with nothing after it, beside the longer units.
-fn second_on(digits: &[u8], at: usize, mut value: Clock) -> Line
-    requires { ⌜ at ≤ 6 ⌝ }
-    ensures { λ r. ⌜ r ≡ clockLine (secondIn value) (fill secondOn (drop at (now (digits .entry)))) ⌝ }
+fn second_on(digits: &[u8], at: usize, mut value: Clock) -> ClockRead
+    requires { ⌜ at ≤ 7 ⌝ }
+    ensures { λ r. ⌜ r ≡ clockPart (secondIn value) (fill secondOn (drop at (now (digits .entry))) at) ⌝ }
 {
     match unit(digits, at, 0, 59) {
         UnitValue::Of(second) => {
-            if at + 2 < digits.len() {
-                return Line::Faulty(TextFault::BadRest);
+            let end = at + 2;
+            if end < digits.len() {
+                return ClockRead::Bad(end);
             }
             value.second = second;
-            Line::Says(Cell::WaitClock(value))
+            ClockRead::Of(value)
         }
-        UnitValue::Bad(_) => Line::Faulty(TextFault::BadRest),
+        UnitValue::Bad(place) => ClockRead::Bad(place),
     }
 }
 
 // The minute and the second.
-fn minute_on(digits: &[u8], at: usize, mut value: Clock) -> Line
-    requires { ⌜ at ≤ 4 ⌝ }
-    ensures { λ r. ⌜ r ≡ clockLine (minuteIn value) (fill minuteOn (drop at (now (digits .entry)))) ⌝ }
+fn minute_on(digits: &[u8], at: usize, mut value: Clock) -> ClockRead
+    requires { ⌜ at ≤ 5 ⌝ }
+    ensures { λ r. ⌜ r ≡ clockPart (minuteIn value) (fill minuteOn (drop at (now (digits .entry))) at) ⌝ }
 {
     match unit(digits, at, 0, 59) {
         UnitValue::Of(minute) => {
             value.minute = minute;
             second_on(digits, at + 2, value)
         }
-        UnitValue::Bad(_) => Line::Faulty(TextFault::BadRest),
+        UnitValue::Bad(place) => ClockRead::Bad(place),
     }
 }
 
 // The hour and what is shorter.
-fn hour_on(digits: &[u8], at: usize, mut value: Clock) -> Line
-    requires { ⌜ at ≤ 2 ⌝ }
-    ensures { λ r. ⌜ r ≡ clockLine (hourIn value) (fill hourOn (drop at (now (digits .entry)))) ⌝ }
+fn hour_on(digits: &[u8], at: usize, mut value: Clock) -> ClockRead
+    requires { ⌜ at ≤ 3 ⌝ }
+    ensures { λ r. ⌜ r ≡ clockPart (hourIn value) (fill hourOn (drop at (now (digits .entry))) at) ⌝ }
 {
     match unit(digits, at, 0, 23) {
         UnitValue::Of(hour) => {
             value.hour = hour;
             minute_on(digits, at + 2, value)
         }
-        UnitValue::Bad(_) => Line::Faulty(TextFault::BadRest),
+        UnitValue::Bad(place) => ClockRead::Bad(place),
     }
 }
 
-// After `D`: with no digits the day matches all.
-fn from_day(digits: &[u8]) -> Line
-    ensures { λ r. ⌜ r ≡ lineFrom (clockSays (from dayOn (now (digits .entry)))) ⌝ }
+// After `D`, with the digits from a place on: with none the day matches all.
+fn from_day(digits: &[u8], at: usize) -> ClockRead
+    requires { ⌜ at ≤ 1 ⌝ }
+    ensures { λ r. ⌜ r ≡ clockRead (from dayOn (drop at (now (digits .entry))) at) ⌝ }
 {
-    if digits.len() == 0 {
-        return Line::Says(Cell::WaitClock(zeros(3)));
+    if digits.len() <= at {
+        return ClockRead::Of(zeros(3));
     }
     let mut value = zeros(4);
-    match unit(digits, 0, 1, 31) {
+    match unit(digits, at, 1, 31) {
         UnitValue::Of(day) => {
             value.day = day;
-            hour_on(digits, 2, value)
+            hour_on(digits, at + 2, value)
         }
-        UnitValue::Bad(_) => Line::Faulty(TextFault::BadRest),
+        UnitValue::Bad(place) => ClockRead::Bad(place),
     }
 }
 
 // After `h`, or with no unit.
-fn from_hour(digits: &[u8]) -> Line
-    ensures { λ r. ⌜ r ≡ lineFrom (clockSays (from hourOn (now (digits .entry)))) ⌝ }
+fn from_hour(digits: &[u8], at: usize) -> ClockRead
+    requires { ⌜ at ≤ 1 ⌝ }
+    ensures { λ r. ⌜ r ≡ clockRead (from hourOn (drop at (now (digits .entry))) at) ⌝ }
 {
-    if digits.len() == 0 {
-        return Line::Says(Cell::WaitClock(zeros(2)));
+    if digits.len() <= at {
+        return ClockRead::Of(zeros(2));
     }
-    hour_on(digits, 0, zeros(3))
+    hour_on(digits, at, zeros(3))
 }
 
 // After `m`.
-fn from_minute(digits: &[u8]) -> Line
-    ensures { λ r. ⌜ r ≡ lineFrom (clockSays (from minuteOn (now (digits .entry)))) ⌝ }
+fn from_minute(digits: &[u8], at: usize) -> ClockRead
+    requires { ⌜ at ≤ 1 ⌝ }
+    ensures { λ r. ⌜ r ≡ clockRead (from minuteOn (drop at (now (digits .entry))) at) ⌝ }
 {
-    if digits.len() == 0 {
-        return Line::Says(Cell::WaitClock(zeros(1)));
+    if digits.len() <= at {
+        return ClockRead::Of(zeros(1));
     }
-    minute_on(digits, 0, zeros(2))
+    minute_on(digits, at, zeros(2))
 }
 
 // After `s`.
-fn from_second(digits: &[u8]) -> Line
-    ensures { λ r. ⌜ r ≡ lineFrom (clockSays (from secondOn (now (digits .entry)))) ⌝ }
+fn from_second(digits: &[u8], at: usize) -> ClockRead
+    requires { ⌜ at ≤ 1 ⌝ }
+    ensures { λ r. ⌜ r ≡ clockRead (from secondOn (drop at (now (digits .entry))) at) ⌝ }
 {
-    if digits.len() == 0 {
-        return Line::Says(Cell::WaitClock(zeros(0)));
+    if digits.len() <= at {
+        return ClockRead::Of(zeros(0));
     }
-    second_on(digits, 0, zeros(1))
+    second_on(digits, at, zeros(1))
 }
 
-// WAIT CLOCK: the unit, D, h, m or s, and the digits.
-pub fn wait_clock(argument: &[u8]) -> Line
-    ensures { λ r. ⌜ r ≡ lineFrom (clockSays (clockOf (now (argument .entry)))) ⌝ }
+// The unit, D, h, m or s, and the digits: places count from the argument's first byte.
+pub fn clock_value(argument: &[u8]) -> ClockRead
+    ensures { λ r. ⌜ r ≡ clockRead (clockOf (now (argument .entry))) ⌝ }
 {
     if argument.len() == 0 {
-        return from_hour(argument);
+        return from_hour(argument, 0);
     }
     let first = argument[0];
     if first == b'D' {
-        return from_day(&argument[1..]);
+        return from_day(argument, 1);
     }
     if first == b'h' {
-        return from_hour(&argument[1..]);
+        return from_hour(argument, 1);
     }
     if first == b'm' {
-        return from_minute(&argument[1..]);
+        return from_minute(argument, 1);
     }
     if first == b's' {
-        return from_second(&argument[1..]);
+        return from_second(argument, 1);
     }
-    from_hour(argument)
+    from_hour(argument, 0)
+}
+
+// WAIT CLOCK: what its value says.
+pub fn wait_clock(argument: &[u8]) -> Line
+    ensures { λ r. ⌜ r ≡ lineFrom (clockSays (clockOf (now (argument .entry)))) ⌝ }
+{
+    match clock_value(argument) {
+        ClockRead::Of(value) => Line::Says(Cell::WaitClock(value)),
+        ClockRead::Bad(_) => Line::Faulty(TextFault::BadRest),
+    }
 }

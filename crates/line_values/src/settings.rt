@@ -65,7 +65,7 @@ pub fn encode(argument: &[u8]) -> Line
 }
 
 // A small letter made capital, any other byte as it is.
-fn raise(b: u8) -> u8
+pub fn raise(b: u8) -> u8
     ensures { λ r. ⌜ r ≡ raised b ⌝ }
 {
     if b < b'a' {

@@ -13,13 +13,16 @@ use numbers::Number;
 use numbers::decimal::number;
 
 // "0 to 60000": the largest number of a line.
-const MOST: u32 = 60000;
+pub const MOST: u32 = 60000;
+
+// "One to five decimal digits".
+pub const DIGITS: usize = 5;
 
 // A number with nothing after it.
 fn whole_number(argument: &[u8]) -> Number
     ensures { λ r. ⌜ r ≡ whole (now (argument .entry)) (numberAt 5 60000 (now (argument .entry)) 0) ⌝ }
 {
-    match number(argument, 0, 5, MOST) {
+    match number(argument, 0, DIGITS, MOST) {
         Number::Value(v, next) => {
             if next == argument.len() {
                 return Number::Value(v, next);
@@ -85,7 +88,7 @@ fn time_in(unit: &[u8], v: u32) -> Line
 pub fn wait_time(argument: &[u8]) -> Line
     ensures { λ r. ⌜ r ≡ lineFrom (timeOf (now (argument .entry))) ⌝ }
 {
-    match number(argument, 0, 5, MOST) {
+    match number(argument, 0, DIGITS, MOST) {
         Number::Value(v, next) => time_in(&argument[next..], v),
         Number::Bad(at) => {
             if at == 0 {

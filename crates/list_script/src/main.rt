@@ -1,4 +1,4 @@
-// Reads a script, of a file or on standard input, and prints its listing, or `refused N at L`.
+// Reads a script, of a file or on standard input, and prints its listing, or `refused N at L,C`.
 use compiler::compile;
 use compiler::faults::number;
 use console::arguments::Given;
@@ -32,11 +32,11 @@ fn usage(to: i32) {
         )
         && tell(
             to,
-            b"its listing, each line ended by CR LF, or `refused N at L`: the number\n",
+            b"its listing, each line ended by CR LF, or `refused N at L,C`: the number\n",
         )
         && tell(
             to,
-            b"of the refusal and the line, as README.md lists them.\n",
+            b"of the refusal, the line and the column, as README.md lists them.\n",
         );
 }
 
@@ -48,9 +48,14 @@ fn wide_word(n: u32) -> u64 {
     n as u64
 }
 
-fn say_refusal(fault: TextFault, line: u32) {
-    let n = wide(number(fault));
-    say(b"refused ") && say_number(n) && say(b" at ") && say_number(wide_word(line)) && say(b"\n");
+fn say_refusal(fault: TextFault, line: u32, column: u32) {
+    say(b"refused ")
+        && say_number(wide(number(fault)))
+        && say(b" at ")
+        && say_number(wide_word(line))
+        && say(b",")
+        && say_number(wide_word(column))
+        && say(b"\n");
 }
 
 // A buffer of LISTING bytes has room for every listing.
@@ -72,7 +77,7 @@ fn list_text(text: &[u8; ROOM], n: usize) {
     let answer = compiled.answer;
     match answer {
         Answer::Accepted(_) => say_listing(compiled.table),
-        Answer::Refused(fault, line) => say_refusal(fault, line),
+        Answer::Refused(fault, line, column) => say_refusal(fault, line, column),
     }
 }
 

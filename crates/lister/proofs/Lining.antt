@@ -9,6 +9,7 @@ use lib.Dec.{ltb, eqb}
 use lib.ListN.{length, take, drop, getD, length-take, length-drop, drop-of-length-le}
 use lib.Seq.{drop-cons, getD-take, slice}
 use borrow.Author.Tests.{ltb-true, ltb-false, lt-ltb, le-ltb, ne-eqb}
+use Rattle.reader.proofs.Tests.{and-false}
 use Rattle.language.specs.declared.Heads.{Heads}
 use Rattle.language.specs.Script.{Statement, Item, does, next}
 use Rattle.language.specs.Listing.{lineFor, itemLine, itemLines, bodyLines, withLineEnds}
@@ -111,10 +112,6 @@ starts pool [] h e es = absurd (omega arith)
 starts pool (w ∷ ws) h zero [] = refl
 starts pool (w ∷ ws) h zero (f ∷ es) = let l : 0 < suc (length es) = omega arith in sym (rw (lt-ltb 0 (suc (length es)) l))
 starts pool (w ∷ ws) h (suc e) es = let n : suc e ≡ 0 → ⊥ = omega arith in sym (rw (ne-eqb (suc e) 0 n) (and-false (ltb 0 (length es))))
-  where
-    and-false : (t : Bool) → (t && false) ≡ false
-    and-false true = refl
-    and-false false = refl
 
 pub no-processes : (pool ws ends : List ℕ) {n : ℕ} → n ≡ 0 → printedBody pool ws (take n ends) ≡ []
 unfolding printedBody bodyFrom bodyLines withLineEnds

@@ -1,9 +1,9 @@
 -- Decimal numbers. "One to five decimal digits, here and below": how many digits at most, and up to which value, is the caller's.
 use Prim.Native.Nat.{ℕ, _+_, _*_}
-use mathlib.Core.Bool.{cond, _&&_}
+use mathlib.Core.Bool.{Bool, false, cond, _&&_}
 use mathlib.Core.List.{List, [], _∷_}
-use lib.ListN.{drop}
-use lib.Dec.{ltb, leb}
+use lib.ListN.{length, drop}
+use lib.Dec.{ltb, leb, eqb}
 use Rattle.reader.specs.Bytes.{digitOf}
 use Rattle.numbers.specs.declared.Number.{Number}
 use Rattle.numbers.specs.declared.Number.the-variants.{Value, Bad}
@@ -26,6 +26,16 @@ numberGo most limit (b ∷ rest) n v at =
 -- the number at a place: its value and the place after it, or the place of the first byte that cannot be taken
 unfoldable pub numberAt : ℕ → ℕ → List ℕ → ℕ → Number
 numberAt most limit s at = numberGo most limit (drop at s) 0 0 at
+
+-- No. 3: "the place of the first byte they can't take": the place after a number, or that of the byte in it
+unfoldable pub numberPlace : Number → ℕ
+numberPlace (Value v next) = next
+numberPlace (Bad at) = at
+
+-- and whether it is all that there is
+abbrev pub isWhole : List ℕ → Number → Bool
+isWhole l (Value v next) = eqb next (length l)
+isWhole l (Bad at) = false
 
 -- ---- "two digits for that unit": a value of exactly two digits, from `low` to `high`
 

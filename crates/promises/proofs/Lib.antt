@@ -6,4 +6,5 @@ pub mod Wrote
 pub mod Agreeing
 pub mod Settling
 pub mod Cases
+pub mod Columns
 pub mod Promises

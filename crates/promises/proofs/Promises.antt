@@ -16,12 +16,14 @@ use Rattle.promises.specs.Demand1.{AltersNothing, NumbersDiffer}
 use Rattle.promises.specs.Demand2.{Faithful}
 use Rattle.promises.specs.Agrees.{Means, Whatever}
 use Rattle.promises.specs.Cases.{All, cases}
+use Rattle.promises.specs.Columns.{ReadersTell, ColumnsTold}
 use Rattle.promises.specs.Settled.{Shapes, Settled}
 use Rattle.promises.proofs.Refusals.{alters-nothing, numbers-differ}
 use Rattle.promises.proofs.Demand2.{demand-2}
 use Rattle.promises.proofs.Agreeing.{means, whatever}
 use Rattle.promises.proofs.Settling.{shapes, settled}
 use Rattle.promises.proofs.Cases.{cases-hold}
+use Rattle.promises.proofs.Columns.{readers-tell, columns-told}
 
 -- 1. Bad input is refused by a number in document 01. A refusal hands back the state it was given and leaves each lent buffer with the bytes it had.
 pub a-refusal-alters-nothing : AltersNothing
@@ -53,6 +55,15 @@ whatever-the-table = whatever
 -- start or quiet moment no process does more than 4,097 statements.
 pub a-run-stays-bounded : {text : List ℕ} {t : Table} {k : ℕ} → Compiles text t k → (b : Box) (qs : List Call) → Bounded t k (afterCalls t (fresh t b) qs)
 a-run-stays-bounded = demand-3
+
+-- Document 02, No. 3. Readers of numbers, hex and clock values tell the place of the first byte they can't take.
+pub readers-tell-the-place : ReadersTell
+readers-tell-the-place = readers-tell
+
+-- Every refusal of a text has its column: for 4 the first byte after which no ending, however long, makes the line right, or the line's length plus one if
+-- there is none; 128 for 1, and 1 for all others; 0 for 12 and 11.
+pub every-refusal-has-its-column : ColumnsTold
+every-refusal-has-its-column = columns-told
 
 -- Document 02, No. 10. Take two accepted scripts that agree in process k and differ in the others as you like. Feed both the same events, each at a quiet
 -- moment, drained to quiet after it. Then what process k sends, the records it writes with their counts, and what it switches are equal, in order, for the

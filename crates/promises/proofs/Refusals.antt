@@ -50,10 +50,10 @@ text-numbered fault.LoopLeftOpen = (omega arith, omega arith)
 text-numbered fault.TooManyProcesses = (omega arith, omega arith)
 text-numbered fault.StretchTooLong = (omega arith, omega arith)
 
-zeroed : (r : Result) (f : TextFault) (row : ℕ) → answered r .answer ≡ answer.Refused f row → answered r .table ≡ zeroTable
+zeroed : (r : Result) (f : TextFault) (row column : ℕ) → answered r .answer ≡ answer.Refused f row column → answered r .table ≡ zeroTable
 unfolding answered
-zeroed (accepted s) f row e = true-is-false (cc)
-zeroed (refused g n) f row e = refl
+zeroed (accepted s) f row column e = true-is-false (cc)
+zeroed (refused g n k) f row column e = refl
 
 refuses-text : (text : List ℕ) → RefusesText text
 unfolding compiled

@@ -26,15 +26,15 @@ use Rattle.bounded.specs.Replies.{once, quiet, plain, sent, recorded}
 use Rattle.running.specs.Running as script
 use Rattle.running.specs.Agreement.{repliesOf}
 
--- what the bench reads back of a text: the stretch; or the number of the refusal, and the line or process
+-- what the bench reads back of a text: the stretch; or the number of the refusal, the line or process, and the column
 pub data ReadBack : Type 0 where
   stretch : ℕ → ReadBack
-  number : ℕ → ℕ → ReadBack
+  number : ℕ → ℕ → ℕ → ReadBack
 
 -- what an answer is read back as
 abbrev pub readBack : Answer → ReadBack
 readBack (Accepted k) = stretch k
-readBack (Refused f row) = number (faultNumber f) row
+readBack (Refused f row column) = number (faultNumber f) row column
 
 -- the statements of each process, as the table has them
 abbrev pub statementsFrom : List ℕ → ℕ → List ℕ → List (List Cell)
@@ -48,7 +48,7 @@ statements t = statementsFrom (t .cells) 0 (take (t .heads .processes) (t .heads
 -- the longest run of each process's statements written out, m passes of each forever loop among them; the text is taken without the bound of 11
 abbrev pub longestBy : ℕ → Result → List ℕ
 longestBy m (accepted s) = map (λ (p : List Statement). longestRun (written m (fragment (map markOf p)))) (processes (s .body))
-longestBy m (refused f row) = []
+longestBy m (refused f row column) = []
 
 -- the script of a text, however long its stretch
 abbrev pub unbounded : List ℕ → Result
@@ -101,10 +101,10 @@ cases =
     ∷ answers "#NOP\n#LOOP 2047\n/A\n#END\n" (stretch 4096)
     ∷ writesOut "#NOP\n#LOOP 2047\n/A\n#END\n" 4096
     -- "`#LOOP 2048`: 4,097, refused 11."
-    ∷ answers "#LOOP 2048\n/A\n#END\n" (number 11 1)
+    ∷ answers "#LOOP 2048\n/A\n#END\n" (number 11 1 0)
     ∷ writesOut "#LOOP 2048\n/A\n#END\n" 4097
     -- "`#LOOP`, `#WAIT CTSON`, `#END`: 11."
-    ∷ answers "#LOOP\n#WAIT CTSON\n#END\n" (number 11 1)
+    ∷ answers "#LOOP\n#WAIT CTSON\n#END\n" (number 11 1 0)
     -- "Empty text: one empty process, quiet at once."
     ∷ answers "" (stretch 0)
     ∷ holds "" ([] ∷ [])
@@ -113,7 +113,7 @@ cases =
     ∷ holds "#WAIT TIME\n" ((WaitTime 1000 ∷ []) ∷ [])
     -- "`#WAIT TIME 999M`: 59,940,000 ms; `1000M`: 4."
     ∷ holds "#WAIT TIME 999M\n" ((WaitTime 59940000 ∷ []) ∷ [])
-    ∷ answers "#WAIT TIME 1000M\n" (number 4 1)
+    ∷ answers "#WAIT TIME 1000M\n" (number 4 1 17)
     -- "`#WAIT CLOCK D` and `h00`: the same table."
     ∷ answers "#WAIT CLOCK D\n" (stretch 0)
     ∷ answers "#WAIT CLOCK h00\n" (stretch 0)

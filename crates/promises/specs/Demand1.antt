@@ -42,7 +42,7 @@ pub record Spares (t : Table) (b : Box) (out : List ℕ) : Type 0 where
 -- the compiler: its numbers are 1 to 12, and "a table handed back by value with a refusal is all zeros"
 pub record RefusesText (text : List ℕ) : Type 0 where
   pub numbered : (f : TextFault) → (1 ≤ texts.faultNumber f) × (texts.faultNumber f ≤ 12)
-  pub zeroed : (f : TextFault) (row : ℕ) → compiled text .answer ≡ answer.Refused f row → compiled text .table ≡ zeroTable
+  pub zeroed : (f : TextFault) (row column : ℕ) → compiled text .answer ≡ answer.Refused f row column → compiled text .table ≡ zeroTable
 
 -- the lister: its numbers are 25 and 26, and the buffer that is lent to it has the bytes it had
 pub record RefusesTable (t : Table) (out : List ℕ) : Type 0 where

@@ -5,3 +5,4 @@ pub mod Turns
 pub mod Agrees
 pub mod Settled
 pub mod Cases
+pub mod Columns

@@ -1,9 +1,10 @@
 -- The cases of a byte: which digit it is, and that it is no space or tab. Assumes nothing.
 use Prim.Native.Nat.{ℕ, _+_, _-_, _≤_, _<_}
-use mathlib.Core.Path.{_≡_, sym, _∙_}
-use mathlib.Core.Bool.{false}
+use mathlib.Core.Path.{_≡_, refl, sym, _∙_}
+use mathlib.Core.Bool.{Bool, true, false, cond}
 use native.Mathlib.Omega.{arith}
-use borrow.Author.Tests.{lt-ltb, le-ltb, ne-eqb}
+use lib.Dec.{eqb}
+use borrow.Author.Tests.{lt-ltb, le-ltb, ne-eqb, eqb-true}
 use Rattle.reader.specs.Bytes.{digitOf, isBlank}
 
 pub digit-low : (b : ℕ) → b < 48 → 16 ≡ digitOf b
@@ -50,3 +51,17 @@ no-blank b h =
     let p : b ≡ 32 → ⊥ = omega arith in
     let q : b ≡ 9 → ⊥ = omega arith in
     simp (ne-eqb b 32 p, ne-eqb b 9 q)
+
+-- a space or a tab: what holds of both
+pub of-blank : (P : ℕ → Type 0) → P 32 → P 9 → (b : ℕ) → isBlank b ≡ true → P b
+unfolding isBlank
+of-blank P space tab b h = go (eqb b 32) refl h
+  where
+    go : (t : Bool) → eqb b 32 ≡ t → cond t true (eqb b 9) ≡ true → P b
+    go true e k = rw (eqb-true b 32 e) space
+    go false e k = rw (eqb-true b 9 k) tab
+
+-- neither is a digit
+pub blank-digit : (b : ℕ) → isBlank b ≡ true → digitOf b ≡ 16
+unfolding digitOf
+blank-digit b h = of-blank (λ c. digitOf c ≡ 16) refl refl b h

@@ -6,3 +6,4 @@ pub mod Digits
 pub mod Solid
 pub mod Placing
 pub mod Each
+pub mod FirstBad

@@ -19,6 +19,10 @@ pub both : (a b : Bool) → a ≡ true → b ≡ true → (a && b) ≡ true
 both true b p q = q
 both false b p q = p
 
+pub and-false : (t : Bool) → (t && false) ≡ false
+and-false true = refl
+and-false false = refl
+
 pub true-is-false : {A : Type 0} → true ≡ false → A
 true-is-false e = let z : _≡_ {A = ℕ} 0 1 = cc in absurd (omega arith)
 

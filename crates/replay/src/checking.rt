@@ -266,8 +266,8 @@ fn listing(table: Table, out: &mut [u8; LISTING]) -> usize {
 fn printed(answer: Answer, table: Table, out: &mut [u8; LISTING]) -> usize {
     match answer {
         Answer::Accepted(_) => listing(table, out),
-        Answer::Refused(fault, place) => {
-            let at = refusal(out, 0, fault, place);
+        Answer::Refused(fault, place, column) => {
+            let at = refusal(out, 0, fault, place, column);
             word(out, at, b"\n")
         }
     }
@@ -312,9 +312,9 @@ fn check_script(
     }
     match answer {
         Answer::Accepted(_) => check_run(line, case.end, name, table),
-        Answer::Refused(fault, place) => Case {
+        Answer::Refused(fault, place, column) => Case {
             verdict: Verdict::Agrees,
-            end: refusal(line, case.end, fault, place),
+            end: refusal(line, case.end, fault, place, column),
         },
     }
 }

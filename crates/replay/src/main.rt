@@ -45,9 +45,9 @@ fn run_text(text: &[u8; ROOM], n: usize) {
     let answer = compiled.answer;
     match answer {
         Answer::Accepted(_) => running::print_run(compiled.table),
-        Answer::Refused(fault, line) => {
+        Answer::Refused(fault, line, column) => {
             let mut said = [0u8; putting::SHORT];
-            let at = putting::refusal(&mut said, 0, fault, line);
+            let at = putting::refusal(&mut said, 0, fault, line, column);
             let end = putting::word(&mut said, at, b"\n");
             say(first(&said, end));
         }

@@ -6,7 +6,7 @@ use writer::put_bytes;
 use writer::put_decimal;
 use writer::put_hex_digits;
 
-// Room for `refused N at L` and for every number.
+// Room for `refused N at L,C` and for every number.
 pub(crate) const SHORT: usize = 64;
 
 pub(crate) fn place_after(put: Put, at: usize) -> usize {
@@ -31,11 +31,19 @@ fn wide(n: u8) -> u32 {
 }
 
 // As `list_script` prints it, but for the line's end.
-pub(crate) fn refusal(text: &mut [u8], at: usize, fault: TextFault, line: u32) -> usize {
+pub(crate) fn refusal(
+    text: &mut [u8],
+    at: usize,
+    fault: TextFault,
+    line: u32,
+    column: u32,
+) -> usize {
     let a = word(text, at, b"refused ");
     let b = count(text, a, wide(number(fault)));
     let c = word(text, b, b" at ");
-    count(text, c, line)
+    let d = count(text, c, line);
+    let e = word(text, d, b",");
+    count(text, e, column)
 }
 
 // A byte that a terminal shows stands as it is, any other in hex.

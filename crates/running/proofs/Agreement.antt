@@ -61,8 +61,8 @@ module _ (t : Table) (s : Script) (k : ℕ) (a : Bears t s k) where
 said-by : (r : Result) {text : List ℕ} {t : Table} {k : ℕ} → Compiles text t k → scriptFrom text ≡ r → r ≡ accepted (scriptOf t)
 unfolding compiled scriptFrom answered
 said-by (accepted s) c e = ap accepted (sym (bears c s e .script))
-said-by (refused f row) {k = k} c e =
-    let z : _≡_ {A = Answer} (answer.Refused f row) (answer.Accepted k) = ap (λ (x : Compiled). x .answer) (sym (ap answered e) ∙ c .result) in
+said-by (refused f row column) {k = k} c e =
+    let z : _≡_ {A = Answer} (answer.Refused f row column) (answer.Accepted k) = ap (λ (x : Compiled). x .answer) (sym (ap answered e) ∙ c .result) in
     let y : _≡_ {A = ℕ} 0 1 = cc in
     absurd (omega arith)
 

@@ -22,7 +22,7 @@ use Rattle.running.specs.Agreement.{repliesOf}
 -- the statements of each process as they are done; none of a refused text
 abbrev doneBy : Result → List (List Statement)
 doneBy (accepted s) = joined.done (s .body)
-doneBy (refused f row) = []
+doneBy (refused f row column) = []
 
 -- a text, and its statements as they are done
 abbrev Joins : List (String × List (List Statement)) → Type 0

@@ -22,4 +22,4 @@ pub record RunsScript (text : List ℕ) (t : Table) : Type 0 where
 -- the replies of the script that a text says, to a start and some calls; a text that is refused says none
 abbrev pub repliesOf : Result → running.Box → List Call → List Reply
 repliesOf (accepted s) y qs = running.replies s y (start ∷ qs)
-repliesOf (refused f row) y qs = []
+repliesOf (refused f row column) y qs = []

@@ -16,7 +16,7 @@ use Rattle.language.specs.Limits.{dataLimit, processLimit}
 use Rattle.language.specs.Script.{Statement, Item, does, next, Script, processes, default}
 use Rattle.language.specs.Stretch.{markOf, stretchOf, largestOf, largest}
 use Rattle.language.specs.Meaning.{isCapital, extension}
-use Rattle.language.specs.Draft.{accepted, refused, stretched}
+use Rattle.language.specs.Draft.{accepted, refusedWhole, stretched}
 use Rattle.language.specs.Right.{encodeRight, settingsRight, allRight, dataIn, nests, allBelow}
 use Rattle.language.specs.Table.{endsFrom, headsOf, laidOut, scriptOf}
 use Rattle.language.proofs.Tables.{script-back}
@@ -29,7 +29,7 @@ use Rattle.stretch.proofs.Scripts.{marksOf, table-marks, allNest, nests
 -- what an answer says of processes that are told by their statements, `best` being the largest stretch and `number` - 1 the number of those before
 abbrev Verdict : Script → List (List Statement) → ℕ → ℕ → Measured → Type 0
 Verdict s ps number best (Largest k) = (stretched stretchOf ps number s ≡ accepted s) × (k ≡ max best (largestOf ps))
-Verdict s ps number best (Over n) = stretched stretchOf ps number s ≡ refused StretchTooLong n
+Verdict s ps number best (Over n) = stretched stretchOf ps number s ≡ refusedWhole StretchTooLong n
 Verdict s ps number best Broken = ⊥
 
 verdict-more : (s : Script) (p : List Statement) (ps : List (List Statement)) (number best : ℕ) (r : Measured) → leb (stretchOf p) limit ≡ true
@@ -62,7 +62,7 @@ some-end (next ∷ is) i = omega arith
 -- what an answer says of a script: it is accepted, and that is its largest stretch; or it is refused at this process
 abbrev pub Answers : Script → Measured → Type 0
 Answers s (Largest k) = (stretched stretchOf (processes (s .body)) 1 s ≡ accepted s) × (k ≡ largest (s .body))
-Answers s (Over n) = stretched stretchOf (processes (s .body)) 1 s ≡ refused StretchTooLong n
+Answers s (Over n) = stretched stretchOf (processes (s .body)) 1 s ≡ refusedWhole StretchTooLong n
 Answers s Broken = ⊥
 
 answers : (s : Script) (r : Measured) → Verdict s (processes (s .body)) 1 0 r → Answers s r
@@ -101,7 +101,7 @@ module _ (s : Script) (rights : allRight (s .body) ≡ true) (bytes : dataIn (s 
         → (stretched stretchOf (processes (s .body)) 1 s ≡ accepted s) × (k ≡ largest (s .body))
     script-largest e = subst (Answers s) e measured-script
 
-    pub script-over : {n : ℕ} → measured (laidOut s .cells) (laidOut s .heads) ≡ Over n → stretched stretchOf (processes (s .body)) 1 s ≡ refused StretchTooLong n
+    pub script-over : {n : ℕ} → measured (laidOut s .cells) (laidOut s .heads) ≡ Over n → stretched stretchOf (processes (s .body)) 1 s ≡ refusedWhole StretchTooLong n
     script-over e = subst (Answers s) e measured-script
 
     pub script-nests : measured (laidOut s .cells) (laidOut s .heads) ≡ Broken → ⊥

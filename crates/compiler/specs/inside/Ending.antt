@@ -10,7 +10,8 @@ use Rattle.language.specs.Draft.{Draft, refused, finished}
 use Rattle.language.specs.Answer.{answered, compiled}
 use Rattle.language.proofs.SoundBody.{Sound}
 use Rattle.compiler.specs.declared.drafting.Step.the-variants.{Going, Stop}
-use Rattle.compiler.specs.inside.Drafting.{Work, Stepped, scriptIn, IsDraft}
+use Rattle.compiler.specs.declared.drafting.Taken.{Taken}
+use Rattle.compiler.specs.inside.Drafting.{Work, workOf, scriptIn, IsDraft}
 
 -- where no loop is left open, the loops of every process nest
 abbrev pub Nests : List ℕ → Work → Type 0
@@ -23,7 +24,7 @@ pub record Ended (s : List ℕ) (w : Work) (cells pool : List ℕ) : Type 0 wher
   pub stands : IsDraft st w cells pool
   pub whole : compiled s ≡ answered (finished stretchOf (scriptIn st) (st .loops))
 
--- the answer, by the step that the lines came to
-pub record Answered (s : List ℕ) (r : Stepped) (cells pool : List ℕ) : Type 0 where
-  pub none : r .step ≡ Going → Ended s (r .work) cells pool
-  pub some : (f : TextFault) (n : ℕ) → r .step ≡ Stop f n → compiled s ≡ answered (refused f n)
+-- the answer, by the step that the lines came to, with the lent arrays as they leave them
+pub record Answered (s loops ends settings cells pool : List ℕ) (r : Taken) : Type 0 where
+  pub none : r .step ≡ Going → Ended s (workOf (r .work) loops ends settings) cells pool
+  pub some : (f : TextFault) (row : ℕ) → r .step ≡ Stop f row → compiled s ≡ answered (refused f row (r .column))

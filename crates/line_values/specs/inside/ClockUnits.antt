@@ -2,20 +2,17 @@
 use Prim.Native.Nat.{ℕ}
 use mathlib.Core.List.{List, [], _∷_}
 use lib.ListN.{getD}
-use Rattle.numbers.specs.Number.{pairAt}
-use Rattle.numbers.specs.inside.Moved.{movedOn}
+use Rattle.numbers.specs.Number.{pairOf}
 use Rattle.hex.specs.Hex.{Said, good, bad}
 use Rattle.numbers.specs.declared.Number.{Number}
 use Rattle.numbers.specs.declared.Number.the-variants as Number
 use Rattle.language.specs.declared.Clock.{Clock}
-use Rattle.language.specs.declared.Cell.the-variants.{WaitClock}
-use Rattle.language.specs.declared.TextFault.the-variants.{BadRest}
 use Rattle.language.specs.Clock.{Range}
-use Rattle.language.specs.Cell.{clock}
-use Rattle.line_values.specs.declared.Line.{Line}
-use Rattle.line_values.specs.declared.Line.the-variants.{Says, Faulty}
+use Rattle.language.specs.Cell.{clock, clockFrom}
 use Rattle.line_values.specs.declared.clocks.UnitValue.{UnitValue}
 use Rattle.line_values.specs.declared.clocks.UnitValue.the-variants as Unit
+use Rattle.line_values.specs.declared.clocks.ClockRead.{ClockRead}
+use Rattle.line_values.specs.declared.clocks.ClockRead.the-variants as Read
 
 -- a unit that was read, or the place of its fault
 unfoldable pub unitFrom : Number → UnitValue
@@ -25,12 +22,17 @@ unitFrom (Number.Bad at) = Unit.Bad at
 -- the value of a unit from the place `at` on: "Left-out shorter units are 00"
 unfoldable pub unitAt : Range → List ℕ → ℕ → UnitValue
 unitAt r [] at = Unit.Of 0
-unitAt r (b ∷ l) at = unitFrom (movedOn at (pairAt (r .low) (r .high) (b ∷ l) 0))
+unitAt r (b ∷ l) at = unitFrom (pairOf (r .low) (r .high) (b ∷ l) at)
 
--- the line of a clock value that is made of the values read
-unfoldable pub clockLine : (List ℕ → Clock) → Said → Line
-clockLine f (good vs) = Says (WaitClock (f vs))
-clockLine f (bad at) = Faulty BadRest
+-- a clock value that is made of the values read
+unfoldable pub clockPart : (List ℕ → Clock) → Said → ClockRead
+clockPart f (good vs) = Read.Of (f vs)
+clockPart f (bad at) = Read.Bad at
+
+-- the clock value of all its fixed units
+unfoldable pub clockRead : Said → ClockRead
+clockRead (good vs) = Read.Of (clockFrom vs)
+clockRead (bad at) = Read.Bad at
 
 -- the shorter units beside those that are read already
 abbrev pub secondIn : Clock → List ℕ → Clock

@@ -9,21 +9,21 @@ use lib.ListN.{length, getD}
 use Rattle.compiler.specs.declared.drafting.Step.the-variants.{Going}
 use Rattle.compiler.specs.inside.Drafting.{workOf}
 use Rattle.compiler.specs.inside.Text.{clearFrom}
-use Rattle.compiler.proofs.Folding.{Folding, Scanning, Lined, first, ready, opened, passed, at-end, overlong, in-line, goes-on, refuses, all-taken, at-fault}
+use Rattle.compiler.proofs.Folding.{Folding, Scanning, Lined, first, ready, opened, passed, at-end, overlong, in-line, goes-on, short, refuses, all-taken, at-fault}
 use Rattle.compiler.proofs.lines.take_each.Statement.{statement}
 use Rattle.compiler.proofs.lines.take_each.Tie as tie
 
 abbrev Inv-loop : tie.InvT-loop
-Inv-loop text loops ends settings cells pool lent work row start clear₀ clear = Scanning text (workOf work loops ends settings) row start cells pool clear
+Inv-loop text loops ends settings cells pool lent work column₀ row start clear₀ column clear = Scanning text (workOf work loops ends settings) row start cells pool clear
 
 abbrev μ-loop : tie.MeasureT-loop
-μ-loop text loops ends settings cells pool lent work row start clear₀ clear = length text - clear
+μ-loop text loops ends settings cells pool lent work column₀ row start clear₀ column clear = length text - clear
 
 abbrev Inv-lines : tie.InvT-lines
-Inv-lines text loops₀ ends₀ settings₀ cells₀ pool₀ lent₀ work₀ step₀ row₀ start₀ loops ends settings cells pool lent work step row start = Folding text (workOf work loops ends settings) row start cells pool × (step ≡ Going)
+Inv-lines text loops₀ ends₀ settings₀ cells₀ pool₀ lent₀ work₀ step₀ column₀ row₀ start₀ loops ends settings cells pool lent work step column row start = Folding text (workOf work loops ends settings) row start cells pool × (step ≡ Going)
 
 abbrev μ-lines : tie.MeasureT-lines
-μ-lines text loops₀ ends₀ settings₀ cells₀ pool₀ lent₀ work₀ step₀ row₀ start₀ loops ends settings cells pool lent work step row start = length text - start
+μ-lines text loops₀ ends₀ settings₀ cells₀ pool₀ lent₀ work₀ step₀ column₀ row₀ start₀ loops ends settings cells pool lent work step column row start = length text - start
 
 no-lines-requires : tie.Need-no-lines-requires Inv-loop μ-loop Inv-lines μ-lines
 no-lines-requires c κs = search needs
@@ -41,9 +41,9 @@ no-feed-requires c κs = c .loop .inv .upto
 
 -- sixteen bytes more hold no LF
 clears : (c : tie.Then1 Inv-loop μ-loop Inv-lines μ-lines)
-    → let at-loop = c .before .before in
-    let at-entry = at-loop .before .before .before .before .before in
-    clearFrom (now (at-entry .args .text)) (at-loop .loop .clear) ≡ true
+    → let at-scan = c .before .before in
+    let at-entry = at-scan .before .before .before .before .before in
+    clearFrom (now (at-entry .args .text)) (at-scan .loop .clear) ≡ true
 clears c = sym (c .before .no-feed .ensures) ∙ c .if1 .taken
 
 sub-if2 : tie.Need-sub-if2 Inv-loop μ-loop Inv-lines μ-lines
@@ -143,29 +143,39 @@ lines-again c =
       e,
     )
 
-enum-told-2 : tie.Need-enum-told-2 Inv-loop μ-loop Inv-lines μ-lines
-enum-told-2 c = search needs
+enum-known-step : tie.Need-enum-known-step Inv-loop μ-loop Inv-lines μ-lines
+enum-known-step c = search needs
+
+-- a line whose rest is wrong is read for its column
+column-in-requires : tie.Need-column-in-requires Inv-loop μ-loop Inv-lines μ-lines
+column-in-requires c κs =
+    let at-take-line = c .before .before .before in
+    let at-without-cr = at-take-line .before .before .before .before .before .before .before .before in
+    short _ (lined (at-without-cr .before)) (bytes (at-without-cr .before)) (at-without-cr .without-cr .ensures .2) _ _ _
+    (at-take-line .take-line .ensures) (c .before .step .given .1)
 
 -- after the last line
 returns : tie.Need-returns Inv-loop μ-loop Inv-lines μ-lines
 returns c =
     let at-lines = c .before in
-    all-taken _ _ _ (at-lines .lines .inv .0) (c .lines-test .left) refl refl refl (at-lines .lines .inv .1)
+    all-taken _ _ _ _ _ _ (at-lines .lines .inv .0) (c .lines-test .left) (at-lines .lines .inv .1)
 
 -- at a line that is too long
 returns-2 : tie.Need-returns-2 Inv-loop μ-loop Inv-lines μ-lines
 returns-2 c =
-    let at-loop = c .before .before .before in
-    at-fault _ _ _ _ _ refl (overlong (at-loop .loop .inv) (clears (c .before)) (c .if2 .taken))
+    let at-scan = c .before .before .before in
+    at-fault _ _ _ _ _ _ _ _ _ refl refl (overlong (at-scan .loop .inv) (clears (c .before)) (c .if2 .taken))
 
 -- at a line's fault
 returns-3 : tie.Need-returns-3 Inv-loop μ-loop Inv-lines μ-lines
 returns-3 c =
-    let at-take-line = c .before .before in
+    let at-step = c .before .before in
+    let at-take-line = at-step .before .before in
     let at-without-cr = at-take-line .before .before .before .before .before .before .before .before in
-    let e = c .enum-told2 .given .1 in
-    at-fault _ _ _ _ _ e
-    (refuses _ (lined (at-without-cr .before)) (bytes (at-without-cr .before)) (at-without-cr .without-cr .ensures .2) _ _ _ (at-take-line .take-line .ensures) e)
+    let e = at-step .step .given .1 in
+    at-fault _ _ _ _ _ _ _ _ _ refl (c .column-in .ensures)
+    (refuses _ (lined (at-without-cr .before)) (bytes (at-without-cr .before)) (at-without-cr .without-cr .ensures .2) _ _ _
+    (at-take-line .take-line .ensures) e)
 
 pub take-each-spec : {M : Type 1} → statement M
 take-each-spec =
@@ -189,12 +199,13 @@ take-each-spec =
     part-line-start
     part-line-end
     take-line-requires
+    enum-known-step
+    column-in-requires
     enum-told
     add-row
     add-start
     lines-less
     lines-again
-    enum-told-2
     returns
     returns-2
     returns-3)

@@ -3,7 +3,6 @@ use mathlib.Core.Path.{sym, _∙_}
 use borrow.Author.Needs.{needs}
 use Rattle.compiler.proofs.Folding.{nothing, deep}
 use Rattle.compiler.proofs.Ending.{never-broken}
-use borrow.Author.Needs.{needs}
 use Rattle.compiler.proofs.lines.take_lines.Statement.{statement}
 use Rattle.compiler.proofs.lines.take_lines.Tie as tie
 

@@ -9,7 +9,7 @@ zeros-requires : tie.Need-zeros-requires
 zeros-requires c κs = search needs
 
 returns : tie.Need-returns
-returns c = no-day _ (c .before .if1 .taken) (c .zeros .ensures)
+returns c = no-day _ _ (c .before .if1 .taken) (c .zeros .ensures)
 
 zeros-requires-2 : tie.Need-zeros-requires-2
 zeros-requires-2 c κs = search needs
@@ -20,11 +20,14 @@ unit-requires c κs = search needs
 enum-known-day : tie.Need-enum-known-day
 enum-known-day c = search needs
 
+add-hour-on : tie.Need-add-hour-on
+add-hour-on c = search needs
+
 hour-on-requires : tie.Need-hour-on-requires
 hour-on-requires c κs = search needs
 
-enum-told : tie.Need-enum-told
-enum-told c = search needs
+enum-known-place : tie.Need-enum-known-place
+enum-known-place c = search needs
 
 returns-2 : tie.Need-returns-2
 returns-2 c =
@@ -32,14 +35,14 @@ returns-2 c =
     let at-unit = at-day .before .before in
     let at-zeros2 = at-unit .before in
     let at-if1 = at-zeros2 .before in
-    c .hour-on .ensures ∙ day-on _ (at-if1 .if1 .left) (at-zeros2 .zeros2 .ensures)
+    c .hour-on .ensures ∙ day-on _ _ (at-if1 .if1 .left) (at-zeros2 .zeros2 .ensures)
     (sym (at-day .day .given .1) ∙ at-unit .unit .ensures)
 
 returns-3 : tie.Need-returns-3
 returns-3 c =
-    let at-unit = c .before .before in
+    let at-unit = c .before .before .before in
     let at-if1 = at-unit .before .before in
-    bad-day _ (at-if1 .if1 .left) (sym (c .enum-told .given .1) ∙ at-unit .unit .ensures)
+    bad-day _ _ (at-if1 .if1 .left) (sym (c .before .place .given .1) ∙ at-unit .unit .ensures)
 
 pub from-day-spec : {M : Type 1} → statement M
 from-day-spec =
@@ -50,7 +53,8 @@ from-day-spec =
     zeros-requires-2
     unit-requires
     enum-known-day
+    add-hour-on
     hour-on-requires
-    enum-told
+    enum-known-place
     returns-2
     returns-3)

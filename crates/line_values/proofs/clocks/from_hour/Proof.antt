@@ -9,7 +9,7 @@ zeros-requires : tie.Need-zeros-requires
 zeros-requires c κs = search needs
 
 returns : tie.Need-returns
-returns c = no-hour _ (c .before .if1 .taken) (c .zeros .ensures)
+returns c = no-hour _ _ (c .before .if1 .taken) (c .zeros .ensures)
 
 zeros-requires-2 : tie.Need-zeros-requires-2
 zeros-requires-2 c κs = search needs
@@ -18,7 +18,7 @@ hour-on-requires : tie.Need-hour-on-requires
 hour-on-requires c κs = search needs
 
 returns-2 : tie.Need-returns-2
-returns-2 c = c .hour-on .ensures ∙ hour-on _ (c .before .before .if1 .left) (c .before .zeros2 .ensures)
+returns-2 c = c .hour-on .ensures ∙ hour-on _ _ (c .before .before .if1 .left) (c .before .zeros2 .ensures)
 
 pub from-hour-spec : {M : Type 1} → statement M
 from-hour-spec =

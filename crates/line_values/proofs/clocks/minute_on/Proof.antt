@@ -18,8 +18,8 @@ add-second-on c = search needs
 second-on-requires : tie.Need-second-on-requires
 second-on-requires c κs = search needs
 
-enum-told : tie.Need-enum-told
-enum-told c = search needs
+enum-known-place : tie.Need-enum-known-place
+enum-known-place c = search needs
 
 returns : tie.Need-returns
 returns c =
@@ -32,10 +32,10 @@ returns c =
 
 returns-2 : tie.Need-returns-2
 returns-2 c =
-    let at-unit = c .before .before in
+    let at-unit = c .before .before .before in
     let at-entry = at-unit .before .before in
     let a = at-entry .args in
-    stops _ _ (now (a .digits)) (a .at) _ (sym (c .enum-told .given .1) ∙ at-unit .unit .ensures)
+    stops _ _ (now (a .digits)) (a .at) _ (sym (c .before .place .given .1) ∙ at-unit .unit .ensures)
 
 pub minute-on-spec : {M : Type 1} → statement M
 minute-on-spec =
@@ -45,6 +45,6 @@ minute-on-spec =
     enum-known-minute
     add-second-on
     second-on-requires
-    enum-told
+    enum-known-place
     returns
     returns-2)

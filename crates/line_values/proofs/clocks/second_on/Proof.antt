@@ -12,8 +12,8 @@ unit-requires c κs = search needs
 enum-known-second : tie.Need-enum-known-second
 enum-known-second c = search needs
 
-add-if1 : tie.Need-add-if1
-add-if1 c = search needs
+add-end : tie.Need-add-end
+add-end c = search needs
 
 returns : tie.Need-returns
 returns c =
@@ -21,8 +21,8 @@ returns c =
     let at-unit = at-second .before .before in
     something-left _ _ _ _ (sym (at-second .second .given .1) ∙ at-unit .unit .ensures) (c .if1 .taken)
 
-enum-told : tie.Need-enum-told
-enum-told c = search needs
+enum-known-place : tie.Need-enum-known-place
+enum-known-place c = search needs
 
 returns-2 : tie.Need-returns-2
 returns-2 c =
@@ -32,12 +32,12 @@ returns-2 c =
 
 returns-3 : tie.Need-returns-3
 returns-3 c =
-    let at-unit = c .before .before in
+    let at-unit = c .before .before .before in
     let at-entry = at-unit .before .before in
     let a = at-entry .args in
-    stops _ _ (now (a .digits)) (a .at) _ (sym (c .enum-told .given .1) ∙ at-unit .unit .ensures)
+    stops _ _ (now (a .digits)) (a .at) _ (sym (c .before .place .given .1) ∙ at-unit .unit .ensures)
 
 pub second-on-spec : {M : Type 1} → statement M
 second-on-spec =
     tie.close
-    (tie.spec unit-requires enum-known-second add-if1 returns enum-told returns-2 returns-3)
+    (tie.spec unit-requires enum-known-second add-end returns enum-known-place returns-2 returns-3)

@@ -1,0 +1,4 @@
+-- What the private functions answer, as the code goes through it. Nothing here has to be believed.
+pub mod Kinds
+pub mod Faults
+pub mod Behind
