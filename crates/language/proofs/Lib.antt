@@ -35,4 +35,5 @@ pub mod TimePlace
 pub mod RestPlace
 pub mod DataPlace
 pub mod Column
+pub mod Faults
 pub mod Inside

@@ -20,7 +20,7 @@ use Rattle.language.specs.Script.{Meaning, comment, blank, process, setE
 use Rattle.language.specs.Limits.{lineLimit, letterLimit}
 use Rattle.language.specs.Meaning.{loopOf, byteOf, timeOf, clockSays, rtsOf, isSign, isCapital, raised, lfextOf, exIn, meaning}
 
--- a meaning that is no fault; `meaning` gives no fault but 3 and 4
+-- a meaning that is no fault; a line by itself has none but 3 and 4, as is proved
 unfoldable pub faultless : Meaning → Bool
 faultless comment = true
 faultless blank = true
