@@ -5,6 +5,8 @@
 //   benchmark drain SCRIPT N        N times drains it until it is quiet, and ticks: statements done and ticks taken
 //   benchmark byte SCRIPT N INPUT   N times has it, quiet, take the bytes of a file: how many were taken
 //   benchmark tick SCRIPT N         has it, quiet, take N ticks: how many were taken; `clock` and `level` likewise
+//   benchmark bytes SCRIPT N INPUT  N times has it, quiet, take the bytes of a file in one gulp: how many, and what the last left
+//   benchmark ticks SCRIPT N COUNT  has it, quiet, take N gulps of COUNT ticks: how many were taken
 use compiler::compile;
 use compiler::faults::number;
 use console::arguments::Given;
@@ -32,6 +34,7 @@ use runner::starting::start;
 use words::is_named;
 
 mod drains;
+mod gulping;
 mod tables;
 mod taking;
 
@@ -46,6 +49,12 @@ fn is_what(what: &[u8], name: &[u8]) -> bool {
 fn on_quiet(what: &[u8], pool: &Pool, heads: Heads, s: State, count: u64, input: &[u8]) -> u64 {
     if is_what(what, b"byte") {
         return taking::byte_often(pool, heads, s, input, count);
+    }
+    if is_what(what, b"bytes") {
+        return gulping::bytes_often(pool, heads, s, input, count);
+    }
+    if is_what(what, b"ticks") {
+        return gulping::ticks_often(s, value(input), count);
     }
     if is_what(what, b"clock") {
         return taking::clock_often(s, count);
@@ -121,15 +130,20 @@ fn on_text(what: &[u8], text: &[u8], count: u64, input: &[u8]) {
     }
 }
 
-// How many times; 0 for a word that is no number.
+// The number of a word; 0 where it is none.
+fn value(text: &[u8]) -> u32 {
+    let read = numbers::decimal::number(text, 0, 10, u32::MAX);
+    match read {
+        Number::Value(n, _) => n,
+        Number::Bad(_) => 0,
+    }
+}
+
+// How many times.
 fn times(word: usize) -> u64 {
     let mut text = io::buffer();
     let n = os::arg(word, &mut text);
-    let read = numbers::decimal::number(&text[..n], 0, 10, u32::MAX);
-    match read {
-        Number::Value(count, _) => count as u64,
-        Number::Bad(_) => 0,
-    }
+    value(&text[..n]) as u64
 }
 
 fn usage(to: i32) {
@@ -137,16 +151,22 @@ fn usage(to: i32) {
         to,
         b"usage: benchmark compile|list|start|drain|tick|clock|level SCRIPT N\n",
     )
-        && tell(to, b"       benchmark byte SCRIPT N INPUT\n")
         && tell(
             to,
-            b"Does that N times with the script, a byte with each of the bytes of INPUT, and\n",
+            b"       benchmark byte|bytes SCRIPT N INPUT, benchmark ticks SCRIPT N COUNT\n",
         )
-        && tell(to, b"prints what came of it: `tools/benchmark` times it.\n");
+        && tell(
+            to,
+            b"Does that N times with the script, bytes and ticks as one gulp each time, byte with each byte of\n",
+        )
+        && tell(
+            to,
+            b"INPUT by itself, and prints what came of it: `tools/benchmark` times it.\n",
+        );
 }
 
 fn is_known(what: &[u8], words: usize) -> bool {
-    if is_what(what, b"byte") {
+    if is_what(what, b"byte") || is_what(what, b"bytes") || is_what(what, b"ticks") {
         return words == 5;
     }
     words == 4
@@ -172,6 +192,17 @@ fn read_word(word: usize, words: usize, buffer: &mut [u8; ROOM]) -> Whole {
     read_file(&path[..n], buffer)
 }
 
+// What comes after N: the COUNT itself of `ticks`, and else the bytes of INPUT.
+fn read_input(what: &[u8], words: usize, buffer: &mut [u8; ROOM]) -> Whole {
+    if is_what(what, b"ticks") {
+        return Whole {
+            n: os::arg(4, buffer),
+            is_read: true,
+        };
+    }
+    read_word(4, words, buffer)
+}
+
 // The first bytes of what was read: those of the script, and those of the input.
 fn on_read<'a>(
     what: &[u8],
@@ -188,7 +219,7 @@ fn on_script(what: &[u8], words: usize, count: u64) {
     let mut text = [0u8; ROOM];
     let mut input = [0u8; ROOM];
     let script = read_word(2, words, &mut text);
-    let bytes = read_word(4, words, &mut input);
+    let bytes = read_input(what, words, &mut input);
     if script.is_read && bytes.is_read {
         on_read(what, &text, script.n, &input, bytes.n, count);
     }

@@ -1,23 +1,21 @@
 -- Every call leaves the processes of an accepted script's table within their bounds, and none is answered 25. Assumes nothing.
 use mathlib.Core.Path.{_≡_, refl, _∙_}
-use mathlib.Core.Bool.{Bool, true, cond}
-use mathlib.Core.List.{List, map}
+use mathlib.Core.Bool.{Bool, false, cond}
+use mathlib.Core.List.{List, [], map}
 use Prim.Native.Nat.{ℕ, suc, _+_, _<_}
 use native.Mathlib.Decide.{ℕ-discrete}
 use native.Mathlib.Omega.{arith}
-use lib.Dec.{eqb, ltb, leb}
-use lib.ListN.{length, getD, set, length-set, length-map}
+use lib.Dec.{eqb, ltb}
+use lib.ListN.{length, getD, set, length-set}
 use lib.Seq.{getD-set-same, getD-set-other}
-use borrow.Author.Tests.{ltb-true, le-leb, eq-eqb, ne-eqb}
-use Rattle.reader.proofs.Tests.{both, by-cases}
-use Rattle.figures.specs.Flat.{Mark}
+use borrow.Author.Tests.{ltb-true, eq-eqb, ne-eqb}
+use Rattle.reader.proofs.Tests.{by-cases}
 use Rattle.language.specs.declared.Heads.{Heads}
 use Rattle.language.specs.declared.Table.{Table}
 use Rattle.language.specs.declared.Cell.{Cell}
-use Rattle.language.specs.Limits.{omitLimit, processLimit}
+use Rattle.language.specs.Limits.{processLimit}
 use Rattle.language.specs.Cell.{level}
 use Rattle.stretch.specs.Marks.{beginsAt, endsAt, marksTo}
-use Rattle.process.specs.declared.Reading.{Reading}
 use Rattle.process.specs.declared.Process.{Process}
 use Rattle.process.specs.declared.State.{State}
 use Rattle.process.specs.declared.RunRefusal.{RunRefusal}
@@ -26,26 +24,29 @@ use Rattle.process.specs.declared.Received.the-variants as received
 use Rattle.statement.specs.declared.outcome.Outcome.the-variants.{Quiet, Refused}
 use Rattle.process.specs.declared.Event.{Event}
 use Rattle.process.specs.declared.ByteEvent.{ByteEvent}
+use Rattle.process.specs.declared.GulpEvent.{GulpEvent}
 use Rattle.runner.specs.declared.Drained.{Drained}
 use Rattle.process.specs.Waiting.{ticked, byteTaken, readingTaken, levelTaken}
 use Rattle.events.specs.Recording.{timesRecorded}
 use Rattle.process.specs.State.{runRefusalNumber, busy, withProcesses}
 use Rattle.events.specs.Events.{refused, took, tickEvent, readingRight, readingEvent, levelEvent}
-use Rattle.events.specs.Receiving.{rangesRight, byteEvent}
+use Rattle.events.specs.Receiving.{byteEvent}
+use Rattle.events.specs.Gulps.{Gulping, ticksGulp, bytesGulp, gulpRefused, gulpTook, ticksEvent, bytesEvent}
 use Rattle.statement.specs.Moving.{moved, cellAt}
 use Rattle.statement.specs.Saying.{outcomeOf}
 use Rattle.runner.specs.Draining.{lowest, nobody, turnOf, writes, stateAfter, unaltered, drained}
 use Rattle.runner.specs.Starting.{started, startState, noCounts, startEvent, startCounts}
 use Rattle.runner.specs.Calls as calls
-use Rattle.runner.specs.Calls.{Box, Call, start, tick, byte, reading, drain, outcome, boxed, answeredBy, receivedBy, startCall}
+use Rattle.runner.specs.Calls.{Box, Call, start, tick, byte, reading, ticks, drain, outcome, boxed, answeredBy, receivedBy, gulpedBy, startCall}
 use Rattle.bounded.specs.Replies.{called, replyNumber}
 use Rattle.bounded.specs.Demand3.{tally, firstOf, endOf}
 use Rattle.bounded.proofs.Held.{Held, Good}
 use Rattle.bounded.proofs.Moves.{moved-good}
-use Rattle.bounded.proofs.Waits.{tick-good, byte-good, reading-good, level-good}
+use Rattle.bounded.proofs.Waits.{reading-good, level-good}
 use Rattle.bounded.proofs.Accepting.{Fitting}
-use Rattle.bounded.proofs.Several.{lowest-ready, map-at, every-right, started-length, started-at}
+use Rattle.bounded.proofs.Several.{lowest-ready, started-length, started-at}
 use Rattle.bounded.proofs.Keeping.{All, Keeps, start-held, started-is, outcome-did}
+use Rattle.bounded.proofs.Changing.{AllAfter, changed-all, ranges-right, tick-all, byte-all, ticks-all, bytes-all}
 use Rattle.reader.specs.Bytes.{all}
 
 module _ (t : Table) (k : ℕ) (a : Fitting t k) where
@@ -64,17 +65,6 @@ module _ (t : Table) (k : ℕ) (a : Fitting t k) where
 
   module _ (b : Box) (f : ℕ → ℕ) (h : All t k (b .state) f) where
     -- ---- events
-
-    -- all processes changed alike
-    changed-all : (g : Process → Process) → g nobody ≡ nobody → ((ms : List Mark) (first n : ℕ) (p : Process) → Held ms first k n p → Held ms first k 0 (g p)) →
-        (r : Reading) (ls : List Bool) (paused : Bool) →
-        All t k (record { processes = map g (b .state .processes); reading = r; levels = ls; paused = paused }) (λ i. 0)
-    changed-all g e keeps r ls paused = record {
-      eight = length-map (b .state .processes) g ∙ h .eight;
-      every = λ i l.
-          rw (map-at g e (b .state .processes) i)
-          (keeps (marksTo (t .cells) (endOf hs i)) (firstOf hs i) (f i) (getD (b .state .processes) i nobody) (h .every i l));
-    }
 
     took-keeps : (counts : List ℕ) (s : State) → All t k s (λ i. 0) → Keeps t k b f (answeredBy counts (took s))
     unfolding tally replyNumber
@@ -99,12 +89,6 @@ module _ (t : Table) (k : ℕ) (a : Fitting t k) where
     only-if u s r c n =
         by-cases (λ (x : Event). Keeps t k b f (answeredBy (b .counts) x)) u (took s) (refused (b .state) r) (λ v. took-keeps (b .counts) s c) (λ v. refused-keeps r n)
 
-    ranges-right : rangesRight hs (b .state) ≡ true
-    unfolding rangesRight
-    ranges-right =
-        both (leb (hs .omits) omitLimit) _ (le-leb (hs .omits) omitLimit (a .omitted))
-        (every-right (b .state .processes) (λ i l. h .every i (omega (arith, h .eight)) .right))
-
     byte-keeps : (x : ℕ) → Keeps t k b f (receivedBy (b .counts) (byteEvent (t .pool) hs (b .state) x))
     unfolding byteEvent tally replyNumber runRefusalNumber
     byte-keeps x =
@@ -112,13 +96,37 @@ module _ (t : Table) (k : ℕ) (a : Fitting t k) where
         let took : ByteEvent =
         record { state = withProcesses s (map (byteTaken (t .pool) x) (s .processes)); answer = received.Took (record { count = timesRecorded hs (s .paused) x }) }
         in
-        rw ranges-right
+        rw (ranges-right t k a s f h)
         (by-cases (λ (e : ByteEvent). Keeps t k b f (receivedBy (b .counts) e)) (busy s) (record { state = s; answer = received.Refused Busy }) took
         (λ u. record { all = h; found = λ e. omega arith })
-        (λ u. record {
-          all = changed-all (byteTaken (t .pool) x) refl (λ ms first n p c. byte-good ms first k n p c (t .pool) x) (s .reading) (s .levels) (s .paused);
-          found = λ e. omega arith;
-        }))
+        (λ u. record { all = byte-all t k a s f h x; found = λ e. omega arith }))
+
+    -- ---- gulps
+
+    gulp-busy : (records : List ℕ) → Keeps t k b f (gulpedBy (b .counts) (gulpRefused (b .state) Busy) records)
+    unfolding tally replyNumber runRefusalNumber
+    gulp-busy records = record { all = h; found = λ e. omega arith }
+
+    gulp-took : (g : Gulping State) (records : List ℕ) → AllAfter t k g f → Keeps t k b f (gulpedBy (b .counts) (gulpTook g) records)
+    unfolding tally replyNumber
+    gulp-took g records c = record { all = c; found = λ e. omega arith }
+
+    -- a gulp is answered 21, or it goes on
+    gulp-keeps : (g : Gulping State) (records : List ℕ) → (busy (b .state) ≡ false → AllAfter t k g f) →
+        Keeps t k b f (gulpedBy (b .counts) (cond (busy (b .state)) (gulpRefused (b .state) Busy) (gulpTook g)) records)
+    gulp-keeps g records c =
+        by-cases (λ (e : GulpEvent). Keeps t k b f (gulpedBy (b .counts) e records)) (busy (b .state)) (gulpRefused (b .state) Busy) (gulpTook g)
+        (λ u. gulp-busy records) (λ u. gulp-took g records (c u))
+
+    ticks-keeps : (n : ℕ) → Keeps t k b f (gulpedBy (b .counts) (ticksEvent (b .state) n) [])
+    unfolding ticksEvent
+    ticks-keeps n = gulp-keeps (ticksGulp (b .state) n) [] (ticks-all t k a (b .state) f h n)
+
+    bytes-keeps : (run : List ℕ) (room : ℕ) (records : List ℕ) → Keeps t k b f (gulpedBy (b .counts) (bytesEvent (t .pool) hs (b .state) run room) records)
+    unfolding bytesEvent
+    bytes-keeps run room records =
+        rw (ranges-right t k a (b .state) f h)
+        (gulp-keeps (bytesGulp (t .pool) hs (b .state) run room) records (bytes-all t k a (b .state) f h run room))
 
     -- ---- a drain
 
@@ -179,14 +187,13 @@ module _ (t : Table) (k : ℕ) (a : Fitting t k) where
     call-keeps tick =
         let s : State = b .state in
         unless-busy (took (withProcesses s (map ticked (s .processes))))
-        (took-keeps (b .counts) (withProcesses s (map ticked (s .processes)))
-        (changed-all ticked refl (λ ms first n p c. tick-good ms first k n p c) (s .reading) (s .levels) (s .paused)))
+        (took-keeps (b .counts) (withProcesses s (map ticked (s .processes))) (tick-all t k a s f h))
     call-keeps (byte x) = byte-keeps x
     call-keeps (reading r) =
         let s : State = b .state in
         let after : State = record { processes = map (readingTaken r) (s .processes); reading = r; levels = s .levels; paused = s .paused } in
         unless-busy (cond (readingRight r) (took after) (refused s BadReading))
-        (only-if (readingRight r) after BadReading (changed-all (readingTaken r) refl (λ ms first n p c. reading-good ms first k n p c r) r (s .levels) (s .paused))
+        (only-if (readingRight r) after BadReading (changed-all t k a s f h (readingTaken r) refl (λ ms first n p c. reading-good ms first k n p c r) r (s .levels) (s .paused))
         (λ e. omega arith))
     call-keeps (calls.level n on) =
         let s : State = b .state in
@@ -195,6 +202,8 @@ module _ (t : Table) (k : ℕ) (a : Fitting t k) where
         in
         unless-busy (cond (ltb n 5) (took after) (refused s NoSuchSignal))
         (only-if (ltb n 5) after NoSuchSignal
-        (changed-all (levelTaken (level n on)) refl (λ ms first m p c. level-good ms first k m p c (level n on)) (s .reading) (set (s .levels) n on) (s .paused))
+        (changed-all t k a s f h (levelTaken (level n on)) refl (λ ms first m p c. level-good ms first k m p c (level n on)) (s .reading) (set (s .levels) n on) (s .paused))
         (λ e. omega arith))
+    call-keeps (ticks n) = ticks-keeps n
+    call-keeps (calls.bytes run room) = bytes-keeps run room _
     call-keeps (drain room) = drain-keeps (b .counts) room _ _

@@ -20,8 +20,8 @@ use Rattle.process.specs.Waiting.{readyWait}
 use Rattle.runner.specs.Draining.{nobody}
 use Rattle.runner.specs.Calls as calls
 use Rattle.runner.specs.Starting.{startEvent, startCounts}
-use Rattle.runner.specs.Calls.{Box, Call, Reply, event, outcome, startCall}
-use Rattle.bounded.specs.Replies.{Compiles, called, takenNumber, receivedNumber, outcomeNumber, replyNumber, RefusedBy}
+use Rattle.runner.specs.Calls.{Box, Call, Reply, event, gulp, outcome, startCall}
+use Rattle.bounded.specs.Replies.{Compiles, called, takenNumber, receivedNumber, gulpedNumber, outcomeNumber, replyNumber, RefusedBy}
 use Rattle.bounded.specs.Demand3.{tally, CountedRun, nextCall, afterCalls, fresh, firstOf, endOf, Safe, Bounded}
 use Rattle.bounded.proofs.Held.{resting, Held}
 use Rattle.bounded.proofs.Opens.{opens-length, bodies-nest}
@@ -45,6 +45,7 @@ is-25 : (y : Reply) → RefusedBy BadTable y → replyNumber y ≡ 25
 unfolding replyNumber runRefusalNumber
 is-25 (event a) e = ap takenNumber e
 is-25 (calls.received a) e = ap receivedNumber e
+is-25 (gulp a records) e = ap gulpedNumber e
 is-25 (outcome o bytes) e = ap outcomeNumber e
 
 module _ (t : Table) (k : ℕ) (a : Fitting t k) where

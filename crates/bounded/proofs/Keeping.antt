@@ -13,6 +13,7 @@ use Rattle.language.specs.Limits.{processLimit}
 use Rattle.stretch.specs.Marks.{marksTo}
 use Rattle.stretch.proofs.Marking.{marks-length}
 use Rattle.process.specs.declared.State.{State}
+use Rattle.events.proofs.Ranges.{awake-right}
 use Rattle.statement.specs.Saying.{outcomeOf}
 use Rattle.runner.specs.Draining.{nobody}
 use Rattle.runner.specs.Starting.{startAt}
@@ -21,7 +22,7 @@ use Rattle.bounded.specs.Replies.{outcomeNumber, replyNumber, did}
 use Rattle.bounded.specs.Demand3.{tally, firstOf, endOf}
 use Rattle.bounded.proofs.Ahead.{opensOf, onward}
 use Rattle.bounded.proofs.Held.{Held}
-use Rattle.bounded.proofs.Ways.{awake-right, awake-fine}
+use Rattle.bounded.proofs.Ways.{awake-fine}
 use Rattle.bounded.proofs.Accepting.{Sound}
 use Rattle.reader.specs.Bytes.{all}
 

@@ -10,6 +10,7 @@ pub mod ProcessCells
 pub mod Accepting
 pub mod Several
 pub mod Keeping
+pub mod Changing
 pub mod Calling
 pub mod Quietly
 pub mod Demand3

@@ -1,40 +1,23 @@
 -- What each event does to a process leaves it within its bounds, and its count starts afresh. Assumes nothing.
 use mathlib.Core.Path.{_≡_, refl}
 use mathlib.Core.Bool.{Bool, true, false, cond}
-use mathlib.Core.List.{List, [], _∷_, _++_}
-use Prim.Native.Nat.{ℕ, zero, suc, _+_, _-_, _≤_}
+use mathlib.Core.List.{List}
+use Prim.Native.Nat.{ℕ, _-_}
 use native.Mathlib.Omega.{arith}
 use lib.Dec.{eqb, leb}
-use lib.ListN.{length, take, length-append, length-take}
-use borrow.Author.Tests.{ltb-true, lt-ltb, eqb-false}
-use Rattle.reader.specs.Bytes.{same}
-use Rattle.reader.proofs.Tests.{both-left, both-right, both, by-cases}
+use Rattle.reader.proofs.Tests.{by-cases}
 use Rattle.figures.specs.Flat.{Mark}
 use Rattle.language.specs.declared.Level.{Level}
-use Rattle.language.specs.Limits.{dataLimit}
 use Rattle.process.specs.declared.Reading.{Reading}
-use Rattle.process.specs.declared.Progress.{Progress}
 use Rattle.process.specs.declared.Wait.{Wait}
 use Rattle.process.specs.declared.Wait.the-variants.{Ready, Over, Ticks, Bytes, Data, ClockValue, Signal}
 use Rattle.process.specs.declared.Process.{Process}
-use Rattle.process.specs.Matching.{last, longestMatch, progress, advance}
-use Rattle.process.specs.Waiting.{awake, tickedWait, ticked, awaited, matchedTo, matchedWait, byteWait, byteTaken, progressRight, waitRight, matches, readingWait, readingTaken, setsLevel, levelWait, levelTaken}
+use Rattle.process.specs.Matching.{advance}
+use Rattle.process.specs.Waiting.{awake, tickedWait, ticked, awaited, matchedTo, matchedWait, byteWait, byteTaken, waitRight, matches, readingWait, readingTaken, setsLevel, levelWait, levelTaken}
+use Rattle.events.proofs.Ranges.{awake-right, data-right}
 use Rattle.bounded.proofs.Ahead.{opensOf}
 use Rattle.bounded.proofs.Held.{resting, Held}
-use Rattle.bounded.proofs.Ways.{awake-right, awake-fine, rest-fine}
-
--- ---- one more byte matches at most one more
-
-longest-few : (d xs : List ℕ) (n : ℕ) → longestMatch d xs n ≤ n
-longest-few d xs zero = omega arith
-longest-few d xs (suc n) =
-    by-cases (λ (m : ℕ). m ≤ suc n) (same (take (suc n) d) (last (suc n) xs)) (suc n) (longestMatch d xs n) (λ e. omega arith) (λ e. omega (arith, longest-few d xs n))
-
-advance-few : (d : List ℕ) (k b : ℕ) → advance d k b ≤ k + 1
-unfolding advance progress
-advance-few d k b =
-    let xs : List ℕ = take k d ++ (b ∷ []) in
-    omega (arith, longest-few d xs (length xs), length-append (take k d) (b ∷ []), length-take k d)
+use Rattle.bounded.proofs.Ways.{awake-fine, rest-fine}
 
 module _ (ms : List Mark) (first k n i e d : ℕ) (ls bs : List ℕ) where
   -- a process with a wait
@@ -87,14 +70,6 @@ module _ (ms : List Mark) (first k n i e d : ℕ) (ls bs : List ℕ) where
   tick-held (ClockValue c) h = stays (ClockValue c) h
   tick-held (Signal l) h = stays (Signal l) h
 
-  -- WAIT DATA: what is matched stays below what is awaited
-  matched-right : (m : Progress) (a : ℕ) → progressRight m ≡ true → a ≤ m .matched + 1 → eqb a (m .count) ≡ false → progressRight (matchedTo m a) ≡ true
-  unfolding progressRight
-  matched-right m a q l r =
-      let below = ltb-true (m .matched) (m .count) (both-right (leb (m .from + m .count) dataLimit) _ q) in
-      let other = eqb-false a (m .count) r in
-      both (leb (m .from + m .count) dataLimit) _ (both-left (leb (m .from + m .count) dataLimit) _ q) (lt-ltb a (m .count) (omega arith))
-
   byte-held : (pool : List ℕ) (b : ℕ) (w : Wait) → Held ms first k n (at w) → Held ms first k 0 (at (byteWait pool b i e w))
   unfolding matchedWait
   byte-held pool b Ready h = stays Ready h
@@ -103,7 +78,7 @@ module _ (ms : List Mark) (first k n i e d : ℕ) (ls bs : List ℕ) where
   byte-held pool b (Bytes m) h = wakes-if (leb m 1) (Bytes m) (Bytes (m - 1)) refl refl (λ r. refl) h
   byte-held pool b (Data m) h =
       let a : ℕ = advance (awaited pool m) (m .matched) b in
-      wakes-if (eqb a (m .count)) (Data m) (Data (matchedTo m a)) refl refl (matched-right m a (h .right) (advance-few (awaited pool m) (m .matched) b)) h
+      wakes-if (eqb a (m .count)) (Data m) (Data (matchedTo m a)) refl refl (data-right pool b m (h .right)) h
   byte-held pool b (ClockValue c) h = stays (ClockValue c) h
   byte-held pool b (Signal l) h = stays (Signal l) h
 

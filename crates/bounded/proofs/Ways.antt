@@ -19,6 +19,7 @@ use Rattle.process.specs.declared.Wait.{Wait}
 use Rattle.process.specs.declared.Wait.the-variants.{Ready, Over, Ticks, Bytes, Data, ClockValue, Signal}
 use Rattle.process.specs.declared.Process.{Process}
 use Rattle.process.specs.Waiting.{readyWait, waitRight, awake}
+use Rattle.events.proofs.Ranges.{awake-right}
 use Rattle.statement.specs.Ways.{goes}
 use Rattle.statement.specs.Loops.{backTo}
 use Rattle.statement.specs.Moving.{restsAt}
@@ -43,14 +44,6 @@ module _ (i end : ℕ) where
       go : (t : Bool) → resting (cond t Ready Over) ≡ true → ⊥
       go true e = true-is-false (sym e)
       go false e = true-is-false (sym e)
-
-  pub awake-right : waitRight (awake i end) ≡ true
-  unfolding awake
-  awake-right = go (ltb i end)
-    where
-      go : (t : Bool) → waitRight (cond t Ready Over) ≡ true
-      go true = refl
-      go false = refl
 
 resting-still : (w : Wait) → resting w ≡ true → readyWait w ≡ false
 resting-still Ready e = sym e

@@ -21,12 +21,13 @@ use Rattle.process.specs.declared.Taken.{Taken}
 use Rattle.process.specs.declared.Taken.the-variants as taken
 use Rattle.process.specs.declared.Received.{Received}
 use Rattle.process.specs.declared.Received.the-variants as received
+use Rattle.process.specs.declared.Gulped.{Gulped}
 use Rattle.statement.specs.declared.outcome.Outcome.the-variants.{Quiet}
 use Rattle.process.specs.State.{busy}
 use Rattle.runner.specs.Draining.{lowest, nobody}
 use Rattle.runner.specs.Calls as calls
-use Rattle.runner.specs.Calls.{Box, Call, start, drain, Reply, event, outcome}
-use Rattle.bounded.specs.Replies.{called, replyNumber, RefusedBy, did}
+use Rattle.runner.specs.Calls.{Box, Call, start, drain, Reply, event, gulp, outcome}
+use Rattle.bounded.specs.Replies.{called, replyNumber, RefusedBy, tookMany, did}
 
 -- ---- the statements that each process has done since the last start or accepted event, by its number from 0
 
@@ -40,10 +41,15 @@ abbrev pub afterReceived : Received → ℕ → ℕ
 afterReceived (received.Took c) n = 0
 afterReceived (received.Refused r) n = n
 
+-- a gulp likewise, if it took at least one
+abbrev pub afterGulp : Gulped → ℕ → ℕ
+afterGulp a n = cond (ltb 0 (tookMany a)) 0 n
+
 -- "A drain does one statement of the lowest-numbered ready process"
 unfoldable pub tally : State → Reply → (ℕ → ℕ) → ℕ → ℕ
 tally s (event a) f i = afterTaken a (f i)
 tally s (calls.received a) f i = afterReceived a (f i)
+tally s (gulp a records) f i = afterGulp a (f i)
 tally s (outcome o bytes) f i = cond (did o) (cond (eqb i (lowest (s .processes))) (suc (f i)) (f i)) (f i)
 
 -- ---- a sequence of calls

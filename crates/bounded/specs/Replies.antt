@@ -3,6 +3,7 @@ use mathlib.Core.Path.{_≡_}
 use mathlib.Core.Bool.{Bool, true, false}
 use mathlib.Core.List.{List, []}
 use Prim.Native.Nat.{ℕ}
+use lib.Dec.{ltb}
 use lib.ListN.{length}
 use Rattle.reader.specs.Bytes.{all}
 use Rattle.language.specs.declared.Table.{Table}
@@ -15,11 +16,13 @@ use Rattle.process.specs.declared.Taken.{Taken}
 use Rattle.process.specs.declared.Taken.the-variants as taken
 use Rattle.process.specs.declared.Received.{Received}
 use Rattle.process.specs.declared.Received.the-variants as received
+use Rattle.process.specs.declared.Gulped.{Gulped}
+use Rattle.process.specs.declared.Gulped.the-variants as gulped
 use Rattle.statement.specs.declared.outcome.Outcome.{Outcome}
 use Rattle.statement.specs.declared.outcome.Outcome.the-variants.{Quiet, Sent, Recorded, Rts, Fchange, Pause, Resume, Plain, Refused}
 use Rattle.process.specs.State.{runRefusalNumber}
 use Rattle.runner.specs.Calls as calls
-use Rattle.runner.specs.Calls.{Box, Call, start, tick, byte, reading, level, drain, Reply, event, outcome, Called}
+use Rattle.runner.specs.Calls.{Box, Call, start, tick, byte, reading, level, ticks, bytes, drain, Reply, event, gulp, outcome, Called}
 
 -- "a script that was accepted": a text of bytes compiles to the table t, and k is the stretch that is reported
 pub record Compiles (text : List ℕ) (t : Table) (k : ℕ) : Type 0 where
@@ -42,6 +45,11 @@ abbrev pub receivedNumber : Received → ℕ
 receivedNumber (received.Took c) = 0
 receivedNumber (received.Refused r) = runRefusalNumber r
 
+-- likewise of a gulp
+abbrev pub gulpedNumber : Gulped → ℕ
+gulpedNumber (gulped.Took g) = 0
+gulpedNumber (gulped.Refused r) = runRefusalNumber r
+
 -- likewise of a drain
 abbrev pub outcomeNumber : Outcome → ℕ
 outcomeNumber Quiet = 0
@@ -58,13 +66,15 @@ outcomeNumber (Refused r) = runRefusalNumber r
 unfoldable pub replyNumber : Reply → ℕ
 replyNumber (event a) = takenNumber a
 replyNumber (calls.received a) = receivedNumber a
-replyNumber (outcome o bytes) = outcomeNumber o
+replyNumber (gulp a records) = gulpedNumber a
+replyNumber (outcome o written) = outcomeNumber o
 
 -- "is answered 25" of the refusal itself, whatever number it has: a reply that refuses by it
 abbrev pub RefusedBy : RunRefusal → Reply → Type 0
 RefusedBy r (event a) = a ≡ taken.Refused r
 RefusedBy r (calls.received a) = a ≡ received.Refused r
-RefusedBy r (outcome o bytes) = o ≡ Refused r
+RefusedBy r (gulp a records) = a ≡ gulped.Refused r
+RefusedBy r (outcome o written) = o ≡ Refused r
 
 -- a drain did a statement
 abbrev pub did : Outcome → Bool
@@ -90,19 +100,27 @@ abbrev pub tookByte : Received → Bool
 tookByte (received.Took c) = true
 tookByte (received.Refused r) = false
 
--- likewise any call
+-- how many single events a gulp took
+abbrev pub tookMany : Gulped → ℕ
+tookMany (gulped.Took g) = g .taken
+tookMany (gulped.Refused r) = 0
+
+-- likewise any call; a gulp that took at least one is an accepted event
 unfoldable pub wasTaken : Reply → Bool
 wasTaken (event a) = tookEvent a
 wasTaken (calls.received a) = tookByte a
-wasTaken (outcome o bytes) = false
+wasTaken (gulp a records) = ltb 0 (tookMany a)
+wasTaken (outcome o written) = false
 
--- a call that is an event
+-- a call that is an event, or a gulp of them
 abbrev pub isEvent : Call → Bool
 isEvent start = false
 isEvent tick = true
 isEvent (byte x) = true
 isEvent (reading r) = true
 isEvent (level n on) = true
+isEvent (ticks n) = true
+isEvent (bytes run room) = true
 isEvent (drain room) = false
 
 -- ---- replies by name

@@ -1,13 +1,15 @@
 -- What the tests of recording decide: a byte that is one of some, and how often it is recorded. Assumes nothing.
 use Prim.Native.Nat.{ℕ, _+_, _≤_, _<_}
 use mathlib.Core.Path.{_≡_, refl, sym, _∙_}
-use mathlib.Core.Bool.{true, false}
+use mathlib.Core.Bool.{Bool, true, false, _||_}
 use mathlib.Core.List.{List}
 use native.Mathlib.Numerals.{add-one}
 use native.Mathlib.Omega.{arith}
+use lib.Dec.{eqb}
 use lib.ListN.{length, take, drop, getD, length-take, drop-of-length-le}
 use lib.Seq.{drop-cons, getD-take}
 use borrow.Author.Tests.{eq-eqb, ne-eqb}
+use Rattle.reader.proofs.Tests.{by-cases}
 use Rattle.language.specs.declared.Heads.{Heads}
 use Rattle.events.specs.Recording.{oneOf, timesRecorded}
 
@@ -59,3 +61,11 @@ module _ (h : Heads) (b : ℕ) where
     pub once-plain : h .encodes ≡ false → 1 ≡ timesRecorded h false b
     unfolding timesRecorded
     once-plain e = rw (n, e)
+
+  -- twice at the most
+  pub times-few : (paused : Bool) → timesRecorded h paused b ≤ 2
+  unfolding timesRecorded
+  times-few paused =
+      let Few : ℕ → Type 0 = λ n. n ≤ 2 in
+      by-cases Few (paused || oneOf (take (h .omits) (h .omit)) b) _ _ (λ u. omega arith)
+      (λ u. by-cases Few (h .encodes) _ _ (λ v. by-cases Few (eqb (h .encode) b) 2 1 (λ w. omega arith) (λ w. omega arith)) (λ v. omega arith))

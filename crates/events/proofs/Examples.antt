@@ -23,7 +23,7 @@ use Rattle.events.specs.Recording.{oneOf, timesRecorded}
 use Rattle.events.specs.Receiving.{rangesRight, byteEvent}
 
 -- heads with so many OMIT bytes, all of them A, no ENCODE byte
-abbrev omits : ℕ → Heads
+abbrev pub omits : ℕ → Heads
 omits n =
     record {
       processes = 1;
@@ -38,7 +38,7 @@ omits n =
     }
 
 -- the first process waits, and the seven others are over; recording is not paused
-abbrev awaits : Wait → State
+abbrev pub awaits : Wait → State
 awaits w =
     let p : Wait → Process = λ v. record { place = 0; end = 1; depth = 0; left = replicate 8 0; back = replicate 8 0; wait = v } in
     record {
@@ -49,7 +49,7 @@ awaits w =
     }
 
 -- a wait for so many bytes from a place of the pool on, of which some are matched
-abbrev range : ℕ → ℕ → ℕ → Wait
+abbrev pub range : ℕ → ℕ → ℕ → Wait
 range from count matched = Data (record { from = from; count = count; matched = matched })
 
 -- the number that a byte is refused by, or none and how often it is recorded

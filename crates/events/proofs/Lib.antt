@@ -3,4 +3,14 @@ pub mod Copying
 pub mod DataCases
 pub mod Links
 pub mod ByteCases
+pub mod Ranges
+pub mod Gulping
+pub mod Gulps
+pub mod Reach
+pub mod WaitsPassed
+pub mod DataPassed
+pub mod Records
+pub mod Together
+pub mod GulpsReach
 pub mod Examples
+pub mod GulpExamples

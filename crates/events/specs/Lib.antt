@@ -2,5 +2,6 @@
 pub mod Events
 pub mod Recording
 pub mod Receiving
+pub mod Gulps
 -- as the code goes through it: nothing in there has to be believed
 pub mod inside

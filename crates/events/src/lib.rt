@@ -3,10 +3,16 @@ ghost use mathlib.Core.Path.{_≡_};
 ghost use mathlib.Core.List.{map};
 ghost use Rattle.process.specs.Waiting.{ticked, readingTaken, levelTaken};
 ghost use Rattle.events.specs.Events.{refused, tickEvent, readingRight, readingEvent, levelEvent};
+ghost use Rattle.events.specs.Gulps.{gulpRefused, ticksEvent};
+use crate::ticking::all_ticks;
+use crate::ticking::least_ticks;
 use language::Level;
 use language::PROCESS_PLACES;
 use language::SIGNALS;
 use process::Event;
+use process::Gulp;
+use process::GulpEvent;
+use process::Gulped;
 use process::Process;
 use process::Reading;
 use process::RunRefusal;
@@ -19,8 +25,10 @@ use reader::widths::both;
 const COUNT: u8 = SIGNALS as u8;
 
 mod matching;
+mod passing;
 pub mod receiving;
 mod recording;
+mod ticking;
 
 fn all_ticked(ps: [Process; PROCESS_PLACES]) -> [Process; PROCESS_PLACES]
     ensures { λ r. ⌜ r ≡ map ticked ps ⌝ }
@@ -78,6 +86,36 @@ pub fn tick(s: State) -> Event
     Event {
         state: t,
         answer: Taken::Took,
+    }
+}
+
+pub(crate) fn refuse_gulp(s: State, why: RunRefusal) -> GulpEvent
+    ensures { λ r. ⌜ r ≡ gulpRefused s why ⌝ }
+{
+    GulpEvent {
+        state: s,
+        answer: Gulped::Refused(why),
+    }
+}
+
+// A number of ticks, up to the first that leaves a process ready.
+pub fn tick_run(s: State, count: u32) -> GulpEvent
+    ensures { λ r. ⌜ r ≡ ticksEvent s count ⌝ }
+{
+    let ps = s.processes;
+    if any_ready(ps) {
+        return refuse_gulp(s, RunRefusal::Busy);
+    }
+    let n = least_ticks(ps, count);
+    let mut t = s;
+    let next = all_ticks(ps, n);
+    t.processes = next;
+    GulpEvent {
+        state: t,
+        answer: Gulped::Took(Gulp {
+            taken: n as usize,
+            recorded: 0,
+        }),
     }
 }
 

@@ -7,10 +7,16 @@ ghost use lib.ListN.{length};
 ghost use Rattle.process.specs.Matching.{advance};
 ghost use Rattle.process.specs.Waiting.{awaited, matchedWait, byteWait, byteTaken, progressRight, waitRight, rangeRight};
 ghost use Rattle.events.specs.Receiving.{answeredWith, byteEvent};
+ghost use Rattle.events.specs.Gulps.{bytesEvent, recordsAfter};
 ghost use Rattle.language.specs.Limits.{poolPlaces, omitPlaces};
 ghost use Rattle.reader.specs.Bytes.{all};
 use crate::matching::advanced;
+use crate::passing::first;
+use crate::passing::pass_run;
+use crate::recording::record_run;
 use crate::recording::recorded;
+use crate::recording::room_for;
+use crate::refuse_gulp;
 use language::Heads;
 use language::OMIT_PLACES;
 use language::POOL_PLACES;
@@ -18,6 +24,9 @@ use language::PROCESS_PLACES;
 use language::Pool;
 use process::ByteEvent;
 use process::Copies;
+use process::Gulp;
+use process::GulpEvent;
+use process::Gulped;
 use process::Process;
 use process::Progress;
 use process::Received;
@@ -43,7 +52,7 @@ fn progress_right(m: Progress) -> bool
 }
 
 // The data of a wait.
-fn awaited_data(pool: &Pool, m: Progress) -> &[u8]
+pub(crate) fn awaited_data(pool: &Pool, m: Progress) -> &[u8]
     requires { ⌜ m .from + m .count ≤ poolPlaces ⌝ }
     ensures { λ r. ⌜ (now r ≡ awaited (now (pool .entry)) m) × (length (now r) ≡ m .count) ⌝ }
 {
@@ -188,4 +197,44 @@ pub fn receive(pool: &Pool, heads: Heads, s: State, b: u8) -> ByteEvent
         return take(pool, heads, s, b);
     }
     answer(s, Received::Refused(RunRefusal::BadTable))
+}
+
+// A run of bytes, where the table is right: 21 while a process is ready.
+fn take_run(pool: &Pool, heads: Heads, s: State, run: &[u8], records: &mut [u8]) -> GulpEvent
+    requires { ⌜ (heads .omits ≤ omitPlaces) × (all rangeRight (s .processes) ≡ true) ⌝ }
+    ensures { λ r. ⌜ (r ≡ bytesEvent (now (pool .entry)) heads s (now (run .entry)) (length (now (records .entry))))
+        × (now (records .exit)
+        ≡ recordsAfter (now (pool .entry)) heads s (now (run .entry)) (now (records .entry))) ⌝ }
+{
+    let ps = s.processes;
+    if any_ready(ps) {
+        return refuse_gulp(s, RunRefusal::Busy);
+    }
+    let fitting = first(run, room_for(heads, s.paused, run, records.len()));
+    let pass = pass_run(ps, pool, fitting);
+    let taken = pass.count;
+    let next = pass.processes;
+    let recorded = record_run(heads, s.paused, first(fitting, taken), records);
+    let mut t = s;
+    t.processes = next;
+    GulpEvent {
+        state: t,
+        answer: Gulped::Took(Gulp { taken, recorded }),
+    }
+}
+
+// A run of bytes, up to the first that leaves a process ready or fewer than two places for what is recorded.
+pub fn receive_run(pool: &Pool, heads: Heads, s: State, run: &[u8], records: &mut [u8]) -> GulpEvent
+    ensures { λ r. ⌜ (r ≡ bytesEvent (now (pool .entry)) heads s (now (run .entry)) (length (now (records .entry))))
+        × (now (records .exit)
+        ≡ recordsAfter (now (pool .entry)) heads s (now (run .entry)) (now (records .entry))) ⌝ }
+{
+    if MOST_OMITS < heads.omits {
+        return refuse_gulp(s, RunRefusal::BadTable);
+    }
+    let ps = s.processes;
+    if all_right(ps) {
+        return take_run(pool, heads, s, run, records);
+    }
+    refuse_gulp(s, RunRefusal::BadTable)
 }

@@ -106,3 +106,19 @@ pub struct ByteEvent {
     pub state: State,
     pub answer: Received,
 }
+
+// What a gulp took: so many bytes or ticks, and so many bytes recorded of them.
+pub struct Gulp {
+    pub taken: usize,
+    pub recorded: usize,
+}
+
+pub enum Gulped {
+    Took(Gulp),
+    Refused(RunRefusal),
+}
+
+pub struct GulpEvent {
+    pub state: State,
+    pub answer: Gulped,
+}

@@ -1,8 +1,9 @@
 pub mod Demand1
 pub mod Refusals
 pub mod Demand2
-pub mod Turns
 pub mod Wrote
+pub mod Gulps
+pub mod Turns
 pub mod Agreeing
 pub mod Settling
 pub mod Cases

@@ -17,6 +17,7 @@ use Rattle.promises.specs.Demand2.{Faithful}
 use Rattle.promises.specs.Agrees.{Means, Whatever}
 use Rattle.promises.specs.Cases.{All, cases}
 use Rattle.promises.specs.Columns.{ReadersTell, ColumnsTold}
+use Rattle.promises.specs.Gulps.{GulpsAreSingle}
 use Rattle.promises.specs.Settled.{Shapes, Settled}
 use Rattle.promises.proofs.Refusals.{alters-nothing, numbers-differ}
 use Rattle.promises.proofs.Demand2.{demand-2}
@@ -24,6 +25,7 @@ use Rattle.promises.proofs.Agreeing.{means, whatever}
 use Rattle.promises.proofs.Settling.{shapes, settled}
 use Rattle.promises.proofs.Cases.{cases-hold}
 use Rattle.promises.proofs.Columns.{readers-tell, columns-told}
+use Rattle.promises.proofs.Gulps.{gulps-are-single}
 
 -- 1. Bad input is refused by a number in document 01. A refusal hands back the state it was given and leaves each lent buffer with the bytes it had.
 pub a-refusal-alters-nothing : AltersNothing
@@ -55,6 +57,11 @@ whatever-the-table = whatever
 -- start or quiet moment no process does more than 4,097 statements.
 pub a-run-stays-bounded : {text : List ℕ} {t : Table} {k : ℕ} → Compiles text t k → (b : Box) (qs : List Call) → Bounded t k (afterCalls t (fresh t b) qs)
 a-run-stays-bounded = demand-3
+
+-- Document 02, No. 2. One call takes a run of bytes, or a number of ticks. It stops after the first that leaves a process ready, or when fewer than two places
+-- remain for recorded bytes, and says how many it took; state and records equal those of single events, each accepted.
+pub a-gulp-is-single-events : GulpsAreSingle
+a-gulp-is-single-events = gulps-are-single
 
 -- Document 02, No. 3. Readers of numbers, hex and clock values tell the place of the first byte they can't take.
 pub readers-tell-the-place : ReadersTell

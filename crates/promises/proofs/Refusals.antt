@@ -113,7 +113,7 @@ writes-all-or-nothing d = record {
 }
 
 pub alters-nothing : AltersNothing
-alters-nothing = record { writers = writes-all-or-nothing; compiler = refuses-text; lister = refuses-table; runner = demand-1; drain = demand-1-lent }
+alters-nothing = record { writers = writes-all-or-nothing; compiler = refuses-text; lister = refuses-table; runner = demand-1; lent = demand-1-lent }
 
 -- ---- the numbers
 

@@ -6,6 +6,7 @@ use Rattle.accepted.specs.Accepted.{tableRight}
 use Rattle.lister.specs.Listed.{listAnswer, listInto}
 use Rattle.events.specs.Events.{tickEvent, readingEvent, levelEvent}
 use Rattle.events.specs.Receiving.{byteEvent}
+use Rattle.events.specs.Gulps.{ticksEvent, bytesEvent, recordsAfter}
 use Rattle.runner.specs.Starting.{startEvent, startCounts}
 use Rattle.runner.specs.Draining.{drained, bufferAfter, countsAfter}
 use Rattle.promises.specs.Settled.{Settles, Value, Lent, LentTwo, Shapes, Settled}
@@ -35,6 +36,8 @@ settled = record {
   readClock = λ s r. value-settles (readingEvent s r);
   setLevel = λ s n on. value-settles (levelEvent s n on);
   receive = λ pool h s b. value-settles (byteEvent pool h s b);
+  tickRun = λ s n. value-settles (ticksEvent s n);
+  receiveRun = λ pool h s run out. lent-settles (bytesEvent pool h s run (length out)) (recordsAfter pool h s run out);
   drain = λ cells pool s counts out.
       lent-two-settles (drained cells pool s counts (length out)) (bufferAfter cells pool s counts out) (countsAfter cells s counts (length out));
 }

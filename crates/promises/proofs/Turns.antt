@@ -1,13 +1,13 @@
 -- A byte counts for waits in every case; an event is taken only when no process is ready; a drain does one statement of one process. Assumes nothing.
 use mathlib.Core.Path.{_≡_, refl, sym, ap, _∙_}
 use mathlib.Core.Bool.{Bool, true, false, cond}
-use mathlib.Core.List.{List, map}
+use mathlib.Core.List.{List, [], map}
 use Prim.Native.Nat.{ℕ}
 use native.Mathlib.Omega.{arith}
 use lib.Dec.{ltb}
-use lib.ListN.{length, getD}
+use lib.ListN.{length, getD, take, replicate}
 use lib.Seq.{getD-set-same, getD-set-other}
-use borrow.Author.Tests.{ltb-true}
+use borrow.Author.Tests.{ltb-true, ltb-false}
 use Rattle.reader.proofs.Tests.{true-is-false, by-cases}
 use Rattle.language.specs.declared.Heads.{Heads}
 use Rattle.language.specs.declared.Table.{Table}
@@ -21,20 +21,24 @@ use Rattle.process.specs.declared.Received.the-variants as received
 use Rattle.statement.specs.declared.outcome.Outcome.the-variants.{Quiet, Refused}
 use Rattle.process.specs.declared.Event.{Event}
 use Rattle.process.specs.declared.ByteEvent.{ByteEvent}
+use Rattle.process.specs.declared.GulpEvent.{GulpEvent}
 use Rattle.runner.specs.declared.Drained.{Drained}
 use Rattle.process.specs.Waiting.{byteTaken}
 use Rattle.process.specs.State.{busy}
 use Rattle.events.specs.Events.{refused, took, tickEvent, readingRight, readingEvent, levelEvent}
 use Rattle.events.specs.Receiving.{answeredWith, rangesRight, byteEvent}
+use Rattle.events.specs.Gulps.{Gulping, ticksGulp, bytesGulp, gulpRefused, gulpTook, ticksEvent, bytesEvent}
 use Rattle.statement.specs.Moving.{moved, cellAt}
 use Rattle.statement.specs.Saying.{outcomeOf}
 use Rattle.runner.specs.Draining.{lowest, nobody, turnOf, does, writes, unaltered, stateAfter, drained, countsAfter}
 use Rattle.runner.specs.Calls as calls
-use Rattle.runner.specs.Calls.{Box, Call, start, tick, byte, reading, level, drain, answeredBy, receivedBy}
+use Rattle.runner.specs.Calls.{Box, Call, start, tick, byte, reading, level, ticks, bytes, drain, boxed, answeredBy, receivedBy, gulpedBy}
 use Rattle.bounded.specs.Replies.{called, isEvent}
 use Rattle.bounded.specs.Replies as replies
 use Rattle.promises.specs.Turns.{withPaused, CountsAlways, TakenWhenQuiet, OneStatement}
 use Rattle.bounded.proofs.Several.{busy-lowest}
+use Rattle.promises.specs.Gulps.{boxAfter}
+use Rattle.promises.proofs.Gulps.{ticks-came, bytes-came}
 
 -- ---- "It counts for waits in every case"
 
@@ -110,6 +114,36 @@ module _ (b : Box) where
       (λ u. by-cases FairByte (busy (b .state)) _ _ (λ v. refused-byte Busy) (λ v. took-byte _ _ v))
       (λ u. refused-byte BadTable)
 
+  -- a gulp too: one that takes none leaves the box
+  abbrev FairGulp : List ℕ → GulpEvent → Type 0
+  FairGulp records e = TakenWhenQuiet b (gulpedBy (b .counts) e records)
+
+  refused-gulp : (records : List ℕ) (r : RunRefusal) → FairGulp records (gulpRefused (b .state) r)
+  unfolding replies.wasTaken
+  refused-gulp records r = record { only = λ e. true-is-false (sym e); unaltered = λ e. refl }
+
+  took-gulp : (records : List ℕ) (g : Gulping State) (after : ℕ → Box) → after 0 ≡ b → boxed (g .box) (b .counts) ≡ after (g .taken) → busy (b .state) ≡ false → FairGulp records (gulpTook g)
+  unfolding replies.wasTaken
+  took-gulp records g after first e quiet = record {
+    only = λ u. quiet;
+    unaltered = λ u. let none : g .taken ≡ 0 = omega (arith, ltb-false 0 (g .taken) u) in e ∙ ap after none ∙ first;
+  }
+
+  ticks-fair : (t : Table) (n : ℕ) → FairGulp [] (ticksEvent (b .state) n)
+  unfolding ticksEvent boxAfter
+  ticks-fair t n =
+      by-cases (FairGulp []) (busy (b .state)) _ _ (λ u. refused-gulp [] Busy)
+      (λ u. took-gulp [] (ticksGulp (b .state) n) (λ k. boxAfter t b (replicate k tick)) refl (ticks-came t (b .counts) (b .state) n u .box) u)
+
+  bytes-fair : (t : Table) (run : List ℕ) (room : ℕ) (records : List ℕ) → FairGulp records (bytesEvent (t .pool) (t .heads) (b .state) run room)
+  unfolding bytesEvent boxAfter
+  bytes-fair t run room records =
+      by-cases (FairGulp records) (rangesRight (t .heads) (b .state)) _ _
+      (λ r. by-cases (FairGulp records) (busy (b .state)) _ _ (λ u. refused-gulp records Busy)
+      (λ u. took-gulp records (bytesGulp (t .pool) (t .heads) (b .state) run room) (λ k. boxAfter t b (map byte (take k run))) refl
+      (bytes-came t (b .counts) (b .state) run room u r .box) u))
+      (λ r. refused-gulp records BadTable)
+
   pub taken-when-quiet : (t : Table) (q : Call) → isEvent q ≡ true → TakenWhenQuiet b (called t q b)
   unfolding calls.called tickEvent readingEvent levelEvent
   taken-when-quiet t start e = true-is-false (sym e)
@@ -117,6 +151,8 @@ module _ (b : Box) where
   taken-when-quiet t (byte x) e = byte-fair (t .pool) (t .heads) x
   taken-when-quiet t (reading r) e = unless-busy _ (λ u. only-if u (readingRight r) _ BadReading)
   taken-when-quiet t (level n on) e = unless-busy _ (λ u. only-if u (ltb n 5) _ NoSuchSignal)
+  taken-when-quiet t (ticks n) e = ticks-fair t n
+  taken-when-quiet t (bytes run room) e = bytes-fair t run room _
   taken-when-quiet t (drain room) e = true-is-false (sym e)
 
 -- ---- "A drain does one statement of the lowest-numbered ready process"

@@ -89,11 +89,11 @@ module _ (w out : List ℕ) where
       let z : 0 + length w ≡ length w = omega arith in
       sets-eq w out 0 (omega arith) ∙ rw z
 
-  front-by : (u : Bool) → (u ≡ true → length w ≤ length out) → take (length (cond u w [])) (cond u (sets out 0 w) out) ≡ cond u w []
+  pub front-by : (u : Bool) → (u ≡ true → length w ≤ length out) → take (length (cond u w [])) (cond u (sets out 0 w) out) ≡ cond u w []
   front-by true h = rw (set-is (h refl)) (take-at w (drop (length w) out) (length w) refl)
   front-by false h = refl
 
-  rest-by : (u : Bool) → (u ≡ true → length w ≤ length out) → drop (length (cond u w [])) (cond u (sets out 0 w) out) ≡ drop (length (cond u w [])) out
+  pub rest-by : (u : Bool) → (u ≡ true → length w ≤ length out) → drop (length (cond u w [])) (cond u (sets out 0 w) out) ≡ drop (length (cond u w [])) out
   rest-by true h = rw (set-is (h refl)) (drop-at w (drop (length w) out) (length w) refl)
   rest-by false h = refl
 

@@ -23,21 +23,25 @@ use Rattle.lister.specs.Listed.{listAnswer, listInto}
 use Rattle.process.specs.declared.Reading.{Reading}
 use Rattle.process.specs.declared.RunRefusal.{RunRefusal}
 use Rattle.process.specs.State.{runRefusalNumber}
+use Rattle.events.specs.Gulps.{bytesEvent, recordsAfter}
 use Rattle.record.specs.Logging.{recordAnswer, recordInto}
 use Rattle.runner.specs.Draining.{drained, bufferAfter}
 use Rattle.runner.specs.Calls.{Box, Call}
-use Rattle.bounded.specs.Replies.{called, outcomeNumber, replyNumber}
+use Rattle.bounded.specs.Replies.{called, gulpedNumber, outcomeNumber, replyNumber}
 
 -- a call on a box: 0 is no refusal, and the runner's numbers are 21 to 25
 pub record Refuses (t : Table) (b : Box) (q : Call) : Type 0 where
   pub numbered : (replyNumber (called t q b .reply) ≡ 0) ⊎ ((21 ≤ replyNumber (called t q b .reply)) × (replyNumber (called t q b .reply) ≤ 25))
   pub unaltered : 0 < replyNumber (called t q b .reply) → called t q b .box ≡ b
 
--- the buffer that is lent to a drain
+-- the buffer that is lent to a drain, and the places that are lent to a run of bytes
 pub record Spares (t : Table) (b : Box) (out : List ℕ) : Type 0 where
   pub buffer :
       0 < outcomeNumber (drained (t .cells) (t .pool) (b .state) (b .counts) (length out) .outcome) →
       bufferAfter (t .cells) (t .pool) (b .state) (b .counts) out ≡ out
+  pub records : (run : List ℕ) →
+      0 < gulpedNumber (bytesEvent (t .pool) (t .heads) (b .state) run (length out) .answer) →
+      recordsAfter (t .pool) (t .heads) (b .state) run out ≡ out
 
 -- the compiler: its numbers are 1 to 12, and "a table handed back by value with a refusal is all zeros"
 pub record RefusesText (text : List ℕ) : Type 0 where
@@ -62,7 +66,7 @@ pub record AltersNothing : Type 0 where
   pub compiler : (text : List ℕ) → RefusesText text
   pub lister : (t : Table) (out : List ℕ) → RefusesTable t out
   pub runner : (t : Table) (b : Box) (q : Call) → Refuses t b q
-  pub drain : (t : Table) (b : Box) (out : List ℕ) → Spares t b out
+  pub lent : (t : Table) (b : Box) (out : List ℕ) → Spares t b out
 
 -- "Numbers the bench reads back": no two refusals of the runner, no two faults of a text and no two refusals of the lister have one number
 pub record NumbersDiffer : Type 0 where

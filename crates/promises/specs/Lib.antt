@@ -6,3 +6,4 @@ pub mod Agrees
 pub mod Settled
 pub mod Cases
 pub mod Columns
+pub mod Gulps

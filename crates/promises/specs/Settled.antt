@@ -15,6 +15,7 @@ use Rattle.process.specs.declared.Reading.{Reading}
 use Rattle.process.specs.declared.State.{State}
 use Rattle.events.specs.Events.{tickEvent, readingEvent, levelEvent}
 use Rattle.events.specs.Receiving.{byteEvent}
+use Rattle.events.specs.Gulps.{ticksEvent, bytesEvent, recordsAfter}
 use Rattle.runner.specs.Starting.{startEvent, startCounts}
 use Rattle.runner.specs.Draining.{drained, bufferAfter, countsAfter}
 
@@ -50,5 +51,8 @@ pub record Settled : Type 0 where
   pub readClock : (s : State) (r : Reading) → Settles (Value (readingEvent s r))
   pub setLevel : (s : State) (n : ℕ) (on : Bool) → Settles (Value (levelEvent s n on))
   pub receive : (pool : List ℕ) (h : Heads) (s : State) (b : ℕ) → Settles (Value (byteEvent pool h s b))
+  pub tickRun : (s : State) (n : ℕ) → Settles (Value (ticksEvent s n))
+  pub receiveRun : (pool : List ℕ) (h : Heads) (s : State) (run out : List ℕ) →
+      Settles (Lent (bytesEvent pool h s run (length out)) (recordsAfter pool h s run out))
   pub drain : (cells pool : List ℕ) (s : State) (counts out : List ℕ) →
       Settles (LentTwo (drained cells pool s counts (length out)) (bufferAfter cells pool s counts out) (countsAfter cells s counts (length out)))

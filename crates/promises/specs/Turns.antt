@@ -18,7 +18,7 @@ use Rattle.statement.specs.declared.outcome.Outcome.{Outcome}
 use Rattle.statement.specs.declared.outcome.Outcome.the-variants.{Quiet, Sent, Recorded, Rts, Fchange, Pause, Resume, Plain, Refused}
 use Rattle.runner.specs.Draining.{lowest, nobody, turnOf, does, drained, bufferAfter}
 use Rattle.runner.specs.Calls as calls
-use Rattle.runner.specs.Calls.{Box, drain, Reply, event, outcome, Called}
+use Rattle.runner.specs.Calls.{Box, drain, Reply, event, gulp, outcome, Called}
 use Rattle.bounded.specs.Replies.{called, wasTaken}
 
 -- ---- "It counts for waits in every case"
@@ -56,6 +56,7 @@ pub record OneStatement (t : Table) (b : Box) (room : ℕ) : Type 0 where
 abbrev pub replyBytes : Reply → List ℕ
 replyBytes (event a) = []
 replyBytes (calls.received a) = []
+replyBytes (gulp a records) = records
 replyBytes (outcome o bytes) = bytes
 
 -- how many bytes an outcome tells

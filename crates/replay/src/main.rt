@@ -20,6 +20,7 @@ mod operations;
 mod outcomes;
 mod putting;
 mod running;
+mod sizes;
 mod tally;
 mod telling;
 

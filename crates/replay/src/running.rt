@@ -3,8 +3,10 @@ ghost use Prim.Native.Nat.{_≤_};
 use super::operations;
 use super::operations::Operation;
 use super::outcomes;
-use super::outcomes::LONGEST;
 use super::outcomes::Said;
+use super::sizes::LENT;
+use super::sizes::LONGEST;
+use super::sizes::RUN;
 use super::telling;
 use super::telling::Course;
 use super::telling::Telling;
@@ -14,8 +16,10 @@ use console::lines::nothing;
 use console::parts::first;
 use events::read_clock;
 use events::receiving::receive;
+use events::receiving::receive_run;
 use events::set_level;
 use events::tick;
+use events::tick_run;
 use language::CELL_PLACES;
 use language::Cells;
 use language::Heads;
@@ -29,16 +33,13 @@ use runner::starting::Counts;
 use runner::starting::idle;
 use runner::starting::start;
 
-// The bytes that a drain is lent at most, whatever SIZE says.
-const LENT: usize = 1024;
-
 // The state after an operation, and what is said of it.
 struct Done {
     state: State,
     said: Said,
 }
 
-// How much of a buffer is lent: no statement writes more than 127.
+// How much of a buffer is lent, whatever is asked: neither a statement nor a gulp writes more.
 fn lent(size: usize, most: usize) -> usize
     ensures { λ r. ⌜ r ≤ most ⌝ }
 {
@@ -78,6 +79,34 @@ fn do_byte(pool: &Pool, heads: Heads, s: State, b: u8, bytes: &mut [u8; LENT]) -
     }
 }
 
+fn do_bytes(
+    pool: &Pool,
+    heads: Heads,
+    s: State,
+    run: &[u8],
+    room: usize,
+    bytes: &mut [u8],
+) -> Done {
+    let n = lent(room, bytes.len());
+    let e = receive_run(pool, heads, s, run, &mut bytes[..n]);
+    let state = e.state;
+    let answer = e.answer;
+    Done {
+        state,
+        said: outcomes::gulped(answer),
+    }
+}
+
+fn do_ticks(s: State, count: u32) -> Done {
+    let e = tick_run(s, count);
+    let state = e.state;
+    let answer = e.answer;
+    Done {
+        state,
+        said: outcomes::gulped(answer),
+    }
+}
+
 fn event(s: State, asked: Operation) -> Event {
     match asked {
         Operation::Clock(r) => read_clock(s, r),
@@ -103,11 +132,14 @@ fn operate<'a>(
     s: State,
     counts: &mut Counts,
     asked: Operation,
+    run: &[u8; RUN],
     bytes: &mut [u8; LENT],
 ) -> Done {
     match asked {
         Operation::Drain(size) => do_drain(cells, pool, s, counts, size, bytes),
         Operation::Byte(b) => do_byte(pool, heads, s, b, bytes),
+        Operation::Bytes(n, room) => do_bytes(pool, heads, s, first(run, n), room, bytes),
+        Operation::Ticks(n) => do_ticks(s, n),
         Operation::Bad => Done {
             state: s,
             said: outcomes::bad_operation(),
@@ -171,6 +203,7 @@ fn turn<'a>(
     now: After,
     counts: &mut Counts,
     asked: Operation,
+    run: &[u8; RUN],
     bytes: &mut [u8; LENT],
     page: &mut [u8; BLOCK],
     name: &[u8],
@@ -181,7 +214,7 @@ fn turn<'a>(
     }
     let before = now.state;
     let t = now.telling;
-    let done = operate(cells, pool, heads, before, counts, asked, bytes);
+    let done = operate(cells, pool, heads, before, counts, asked, run, bytes);
     let state = done.state;
     let said = done.said;
     After {
@@ -203,6 +236,7 @@ fn run_all<'a>(
     text: &mut [u8; LONGEST],
 ) -> Telling {
     let mut block = [0u8; BLOCK];
+    let mut run = [0u8; RUN];
     let mut bytes = [0u8; LENT];
     let mut held = nothing();
     let mut now = begun;
@@ -213,7 +247,7 @@ fn run_all<'a>(
         if !is_going(now) {
             break;
         }
-        let next = operations::next_operation(input, input_name, &mut block, held);
+        let next = operations::next_operation(input, input_name, &mut block, held, &mut run);
         let left = next.held;
         held = left;
         let asked = next.operation;
@@ -227,6 +261,7 @@ fn run_all<'a>(
             now,
             counts,
             asked,
+            &run,
             &mut bytes,
             page,
             name,

@@ -1,6 +1,6 @@
 // What becomes of an outcome: it is put on a page that is printed, or held against the next line of a file.
-use super::outcomes::LONGEST;
 use super::putting::word;
+use super::sizes::LONGEST;
 use console::lines::BLOCK;
 use console::lines::Held;
 use console::lines::Line;

@@ -33,8 +33,8 @@ boxes-apart text another t u i j c d k g b y es one other x z =
     let r : Script = scriptOf u in
     let p = same-run c k one es (x .calls) b (started s) in
     let q = same-run d k other es (z .calls) y (started r) in
-    let same = scripts-apart k s r (done-alike k s r g) (started s) (started r) es one other (record { calls = x .calls; quiet = sym (p .quiet) ∙ x .quiet })
-    (record { calls = z .calls; quiet = sym (q .quiet) ∙ z .quiet })
+    let same = scripts-apart k s r (done-alike k s r g) (started s) (started r) es one other (record { calls = x .calls; single = x .single; quiet = sym (p .quiet) ∙ x .quiet })
+    (record { calls = z .calls; single = z .single; quiet = sym (q .quiet) ∙ z .quiet })
     in
     p .compared ∙ ap₂ (λ (ss : List Statement) (l : List (Part Process)). map (tabled ss) l) g same ∙ sym (q .compared)
 

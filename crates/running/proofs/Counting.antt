@@ -11,12 +11,13 @@ use Rattle.language.specs.Script.{Statement, send, loop, end, waitTime, waitDat
 use Rattle.running.specs.Joined.{done}
 use Rattle.process.specs.declared.RunRefusal.the-variants.{SmallBuffer}
 use Rattle.process.specs.State.{any}
-use Rattle.events.specs.Events.{readingRight}
 use Rattle.statement.specs.declared.outcome.Outcome.the-variants.{Refused}
 use Rattle.record.specs.Logging.{nextCount}
-use Rattle.runner.specs.Calls.{Call, start, tick, byte, reading, level, drain, outcome}
-use Rattle.running.specs.Running.{Loop, Wait, Process, Box, Next, idle, statement, isStatement, next, busy, closed, logged, does, Turn, none, did, later, takes, turn, Called, drained, waiting, atFirst, started, called}
+use Rattle.runner.specs.Calls.{Call, start, tick, byte, reading, level, ticks, bytes, drain, outcome}
+use Rattle.bounded.specs.Replies.{wasTaken, isEvent}
+use Rattle.running.specs.Running.{Loop, Wait, Process, Box, Next, idle, statement, isStatement, next, closed, logged, does, Turn, none, did, later, takes, turn, drained, waiting, atFirst, started, called}
 use Rattle.running.specs.Called.{boxAfter, isLog, logsNext, logsIn, logs, loggedIn, isStart, process, CountsOwn}
+use Rattle.running.proofs.Events.{event-taken}
 use Rattle.running.proofs.Drains.{neither, of, after, drained-is}
 
 -- ---- an event counts nothing
@@ -87,12 +88,16 @@ turn-counts b (p ∷ ps) (suc k) n h = go (next p) (turn b ps) (turn-counts b ps
 -- ---- a call that is no start
 
 module _ (s : Script) (b : Box) (k n : ℕ) (h : process k b .counts n < 4294967296) where
-  abbrev Keeps : Called → Type 0
-  Keeps r = process k (r .box) .counts n ≡ process k b .counts n
-
   -- where nothing is counted
   none-counted : (m : ℕ) → m ≡ process k b .counts n → m ≡ (process k b .counts n + 0) % 4294967296
   none-counted m e = omega arith
+
+  event-keeps : (q : Call) → isEvent q ≡ true → process k (called s q b .box) .counts n ≡ (process k b .counts n + 0) % 4294967296
+  event-keeps q e = none-counted _ (go (wasTaken (called s q b .reply)) refl)
+    where
+      go : (u : Bool) → wasTaken (called s q b .reply) ≡ u → process k (called s q b .box) .counts n ≡ process k b .counts n
+      go true t = ap (λ (ps : List Process). of k ps .counts n) (event-taken s b q e .acts t) ∙ event-counts _ (b .processes) k n
+      go false t = ap (λ (c : Box). process k c .counts n) (event-taken s b q e .unaltered t)
 
   drain-counts : (u : Bool) → process k (cond u (drained b (turn b (b .processes))) (record { box = b; reply = outcome (Refused SmallBuffer) [] }) .box) .counts n
       ≡ (process k b .counts n + cond (u && logsIn k n (b .processes)) 1 0) % 4294967296
@@ -100,15 +105,15 @@ module _ (s : Script) (b : Box) (k n : ℕ) (h : process k b .counts n < 4294967
   drain-counts false = omega arith
 
   once : (q : Call) → isStart q ≡ false → process k (called s q b .box) .counts n ≡ (process k b .counts n + cond (logs k n q b) 1 0) % 4294967296
-  unfolding called logs
+  unfolding logs
   once start e = true-is-false e
-  once tick e = none-counted _ (by-cases Keeps (busy b) _ _ (λ u. refl) (λ u. event-counts _ (b .processes) k n))
-  once (byte x) e = none-counted _ (by-cases Keeps (busy b) _ _ (λ u. refl) (λ u. event-counts _ (b .processes) k n))
-  once (reading r) e =
-      none-counted _ (by-cases Keeps (busy b) _ _ (λ u. refl) (λ u. by-cases Keeps (readingRight r) _ _ (λ v. event-counts _ (b .processes) k n) (λ v. refl)))
-  once (level m is) e =
-      none-counted _ (by-cases Keeps (busy b) _ _ (λ u. refl) (λ u. by-cases Keeps (ltb m 5) _ _ (λ v. event-counts _ (b .processes) k n) (λ v. refl)))
-  once (drain room) e = drain-counts (ltb 127 room)
+  once tick e = event-keeps tick refl
+  once (byte x) e = event-keeps (byte x) refl
+  once (reading r) e = event-keeps (reading r) refl
+  once (level m is) e = event-keeps (level m is) refl
+  once (ticks m) e = event-keeps (ticks m) refl
+  once (bytes run room) e = event-keeps (bytes run room) refl
+  once (drain room) e = unfold called in drain-counts (ltb 127 room)
 
 -- ---- all of them
 

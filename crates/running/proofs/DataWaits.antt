@@ -8,7 +8,7 @@ use lib.ListN.{length, take, drop, length-append, take-append-drop}
 use lib.Seq.{drop-at}
 use Rattle.reader.proofs.Same.{same-is, is-same}
 use Rattle.reader.proofs.Tests.{true-is-false, by-cases}
-use Rattle.runner.specs.Calls.{Call, start, tick, byte, reading, level, drain}
+use Rattle.runner.specs.Calls.{Call, start, tick, byte, reading, level, ticks, bytes, drain}
 use Rattle.running.specs.Running.{Wait, forNothing, forData, endsIn, ticked, gets, read, levelled}
 use Rattle.running.specs.Waits.{eventOn, since, isReceived, receivedIn, Last, DataWait}
 
@@ -20,6 +20,8 @@ nothing-stays tick = refl
 nothing-stays (byte x) = refl
 nothing-stays (reading r) = refl
 nothing-stays (level n is) = refl
+nothing-stays (ticks n) = refl
+nothing-stays (bytes run room) = refl
 nothing-stays (drain room) = refl
 
 pub stays-over : (es : List Call) → since es forNothing ≡ forNothing
@@ -53,6 +55,8 @@ module _ (d : List ℕ) where
   one-event (byte x) seen = refl
   one-event (reading r) seen = refl
   one-event (level m is) seen = refl
+  one-event (ticks n) seen = refl
+  one-event (bytes run room) seen = refl
   one-event (drain room) seen = refl
 
   -- the bytes of an event, and of those after it
@@ -63,6 +67,8 @@ module _ (d : List ℕ) where
   bytes-first (byte x) es = refl
   bytes-first (reading r) es = refl
   bytes-first (level m is) es = refl
+  bytes-first (ticks n) es = refl
+  bytes-first (bytes run room) es = refl
   bytes-first (drain room) es = refl
 
   no-bytes : (e : Call) → isReceived e ≡ false → receivedIn (e ∷ []) ≡ []
@@ -72,6 +78,8 @@ module _ (d : List ℕ) where
   no-bytes (byte x) h = true-is-false h
   no-bytes (reading r) h = refl
   no-bytes (level m is) h = refl
+  no-bytes (ticks n) h = refl
+  no-bytes (bytes run room) h = refl
   no-bytes (drain room) h = refl
 
   -- more is seen

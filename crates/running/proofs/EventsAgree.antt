@@ -131,7 +131,7 @@ module _ (t : Table) (s : Script) (k : ℕ) (a : Bears t s k) (b : Box) (qs : Li
       (λ j i w v z. level-waits (t .cells) (t .pool) (endOf (t .heads) j) (a .fits .sound j .own .inside) n on i w v z) 0 (b .state .processes) qs (w .alike)))
       (stays NoSuchSignal))
 
-  ranges-right : rangesRight (t .heads) (b .state) ≡ true
+  pub ranges-right : rangesRight (t .heads) (b .state) ≡ true
   unfolding rangesRight
   ranges-right =
       both (leb (t .heads .omits) omitLimit) _ (le-leb (t .heads .omits) omitLimit (a .fits .omitted))
@@ -159,7 +159,9 @@ module _ (t : Table) (s : Script) (k : ℕ) (a : Bears t s k) (b : Box) (qs : Li
       go : (u : Bool) → Answers t
           (receivedBy (b .counts) (cond u (answeredWith (b .state) (received.Refused Busy))
           (answeredWith (withProcesses (b .state) (map (byteTaken (t .pool) x) (b .state .processes))) (received.Took (record { count = timesRecorded (t .heads) (b .state .paused) x })))))
-          (cond u (record { box = bx; reply = calls.received (received.Refused Busy) })
-          (record { box = script.having (script.allWaiting (script.gets x) bx) bx; reply = calls.received (received.Took (record { count = script.timesRecorded (s .settings) (b .state .paused) x })) }))
+          (record {
+            box = cond u bx (script.having (script.allWaiting (script.gets x) bx) bx);
+            reply = calls.received (cond u (received.Refused Busy) (received.Took (record { count = script.timesRecorded (s .settings) (b .state .paused) x })));
+          })
       go true = record { reply = refl; after = qs; box = refl; alike = w .alike; long = w .long }
       go false = took-byte

@@ -8,11 +8,13 @@ pub mod StatementsAgree
 pub mod Turns
 pub mod Starts
 pub mod EventsAgree
+pub mod GulpsAgree
 pub mod DrainsAgree
 pub mod Agreement
 pub mod DataWaits
 pub mod WaitLaws
 pub mod Passes
+pub mod Gulps
 pub mod Events
 pub mod Drains
 pub mod Waiting

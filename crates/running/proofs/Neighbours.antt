@@ -7,15 +7,16 @@ use native.Mathlib.Omega.{arith}
 use lib.Dec.{ltb}
 use lib.ListN.{length, set, List·getD-map}
 use borrow.Author.Tests.{not-true}
-use Rattle.reader.proofs.Tests.{both-left, both-right}
+use Rattle.reader.specs.Bytes.{all}
+use Rattle.reader.proofs.Tests.{both-left, both-right, true-is-false}
 use Rattle.language.specs.Script.{Script}
 use Rattle.running.specs.Joined.{done}
 use Rattle.process.specs.declared.Reading.{Reading}
 use Rattle.events.specs.Events.{readingRight}
-use Rattle.runner.specs.Calls.{Call, start, tick, byte, reading, level, drain, Reply}
+use Rattle.runner.specs.Calls.{Call, start, tick, byte, reading, level, ticks, bytes, drain, Reply}
 use Rattle.running.specs.Running.{Process, Wait, forNothing, Box, ticked, gets, read, levelled, busy, Called, atFirst, waiting, started, called}
 use Rattle.running.specs.Called.{process}
-use Rattle.running.specs.Neighbours.{Fed, callsOf, Part, drainedBy, fedWith, quietly, says, parts, ofScript, Agree, ScriptsApart}
+use Rattle.running.specs.Neighbours.{Fed, callsOf, isSingle, Part, drainedBy, fedWith, quietly, says, parts, ofScript, Agree, ScriptsApart}
 use Rattle.running.proofs.Drains.{of, quiet-idle}
 use Rattle.running.proofs.Waiting.{acts-on}
 use Rattle.running.proofs.Alone.{Alone, one-way, went}
@@ -32,7 +33,7 @@ starts-near : (k : ℕ) (s r : Script) → Agree k s r → Near k (started s) (s
 unfolding started
 starts-near k s r g = record { process = List·getD-map atFirst (done (s .body)) k [] ∙ ap atFirst g ∙ sym (List·getD-map atFirst (done (r .body)) k []); reading = refl; levels = refl }
 
--- ---- at a quiet moment every call keeps them so
+-- ---- at a quiet moment every call but a gulp keeps them so
 
 module _ (k : ℕ) (s r : Script) (g : Agree k s r) (b c : Box) (n : Near k b c) (i : busy b ≡ false) (j : busy c ≡ false) where
   -- an event acts on the waits of all processes alike
@@ -44,16 +45,18 @@ module _ (k : ℕ) (s r : Script) (g : Agree k s r) (b c : Box) (n : Near k b c)
   either true x y v w z o = z
   either false x y v w z o = o
 
-  calls-near : (q : Call) → Near k (called s q b .box) (called r q c .box)
+  calls-near : (q : Call) → isSingle q ≡ true → Near k (called s q b .box) (called r q c .box)
   unfolding called ticked gets read levelled
-  calls-near start = starts-near k s r g
-  calls-near tick = rw (i, j) (record { process = acts-near ticked refl; reading = n .reading; levels = n .levels })
-  calls-near (byte x) = rw (i, j) (record { process = acts-near (gets x) refl; reading = n .reading; levels = n .levels })
-  calls-near (reading x) = rw (i, j) (either (readingRight x) _ _ _ _ (record { process = acts-near (read x) refl; reading = refl; levels = n .levels }) n)
-  calls-near (level m is) =
+  calls-near start e = starts-near k s r g
+  calls-near tick e = rw (i, j) (record { process = acts-near ticked refl; reading = n .reading; levels = n .levels })
+  calls-near (byte x) e = rw (i, j) (record { process = acts-near (gets x) refl; reading = n .reading; levels = n .levels })
+  calls-near (reading x) e = rw (i, j) (either (readingRight x) _ _ _ _ (record { process = acts-near (read x) refl; reading = refl; levels = n .levels }) n)
+  calls-near (level m is) e =
       rw (i, j) (either (ltb m 5) _ _ _ _
       (record { process = acts-near (levelled m is) refl; reading = n .reading; levels = ap (λ (l : List Bool). set l m is) (n .levels) }) n)
-  calls-near (drain room) = rw (quiet-idle s b room i .box, quiet-idle r c room j .box) n
+  calls-near (ticks m) e = true-is-false (sym e)
+  calls-near (bytes run room) e = true-is-false (sym e)
+  calls-near (drain room) e = rw (quiet-idle s b room i .box, quiet-idle r c room j .box) n
 
 -- ---- drained to quiet
 
@@ -103,15 +106,15 @@ module _ (k : ℕ) (s r : Script) (g : Agree k s r) where
       (ap₂ (λ (l : List Reply) (q : Process). record { replies = l; kept = q }) (d .said) (d .near .process))
       (rest (d .near) i j (both-right (not (busy (fedWith (ofScript s) f b))) _ x) (both-right (not (busy (fedWith (ofScript r) h c))) _ y) more)
 
-  runs-near : (fs hs : List Fed) (b c : Box) → Near k b c → busy b ≡ false → busy c ≡ false → Same b c fs hs
+  runs-near : (fs hs : List Fed) → all isSingle (callsOf fs) ≡ true → (b c : Box) → Near k b c → busy b ≡ false → busy c ≡ false → Same b c fs hs
   unfolding parts
-  runs-near [] [] b c n i j x y e = refl
-  runs-near [] (h ∷ hs) b c n i j x y e = absurd (omega (arith, ap (λ (l : List Call). length l) e))
-  runs-near (f ∷ fs) [] b c n i j x y e = absurd (omega (arith, ap (λ (l : List Call). length l) e))
-  runs-near (f ∷ fs) (h ∷ hs) b c n i j x y e =
+  runs-near [] [] o b c n i j x y e = refl
+  runs-near [] (h ∷ hs) o b c n i j x y e = absurd (omega (arith, ap (λ (l : List Call). length l) e))
+  runs-near (f ∷ fs) [] o b c n i j x y e = absurd (omega (arith, ap (λ (l : List Call). length l) e))
+  runs-near (f ∷ fs) (h ∷ hs) o b c n i j x y e =
       let same-call : f .call ≡ h .call = cc in
-      fed-near b c f h fs hs (subst (λ (q : Call). Near k (called s (f .call) b .box) (called r q c .box)) same-call (calls-near k s r g b c n i j (f .call)))
-      (λ z u v. runs-near fs hs (fedWith (ofScript s) f b) (fedWith (ofScript r) h c) z u v) x y e
+      fed-near b c f h fs hs (subst (λ (q : Call). Near k (called s (f .call) b .box) (called r q c .box)) same-call (calls-near k s r g b c n i j (f .call) (both-left (isSingle (f .call)) _ o)))
+      (λ z u v. runs-near fs hs (both-right (isSingle (f .call)) _ o) (fedWith (ofScript s) f b) (fedWith (ofScript r) h c) z u v) x y e
 
 -- THE THEOREM
 pub scripts-apart : ScriptsApart
@@ -123,5 +126,6 @@ scripts-apart k s r g b c es (f ∷ fs) (h ∷ hs) x y =
     let d = y .calls in
     let first : f .call ≡ start = cc in
     let second : h .call ≡ start = cc in
+    let rest : callsOf fs ≡ es = cc in
     fed-near k s r g b c f h fs hs (rw (first, second) (starts-near k s r g))
-    (λ z u v. runs-near k s r g fs hs (fedWith (ofScript s) f b) (fedWith (ofScript r) h c) z u v) (x .quiet) (y .quiet) (x .calls ∙ sym (y .calls))
+    (λ z u v. runs-near k s r g fs hs (ap (all isSingle) rest ∙ x .single) (fedWith (ofScript s) f b) (fedWith (ofScript r) h c) z u v) (x .quiet) (y .quiet) (x .calls ∙ sym (y .calls))

@@ -113,7 +113,7 @@ shown {t = t} c fs d b =
     let r = same-run c 1 fs events (d .calls) b y in
     record {
       asked = record {
-        run = record { calls = d .calls; quiet = r .quiet ∙ d .quiet y };
+        run = record { calls = d .calls; single = refl; quiet = r .quiet ∙ d .quiet y };
         events = refl;
         taken = r .taken ∙ d .taken y;
         buffers = d .buffers;

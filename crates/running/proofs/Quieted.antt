@@ -20,14 +20,14 @@ use Rattle.process.specs.Waiting.{ready}
 use Rattle.runner.specs.Draining as draining
 use Rattle.runner.specs.Calls as calls
 use Rattle.runner.specs.Starting.{startEvent}
-use Rattle.runner.specs.Calls.{Call, start, tick, byte, reading, level, drain, outcome, startCall}
+use Rattle.runner.specs.Calls.{Call, start, tick, byte, reading, level, ticks, bytes, drain, outcome, startCall}
 use Rattle.bounded.specs.Replies as runner
 use Rattle.bounded.specs.Replies.{wasTaken, isEvent}
 use Rattle.bounded.specs.Demand3.{tally, nextCall, afterCalls, fresh}
 use Rattle.bounded.specs.Demand3 as demand3
 use Rattle.bounded.proofs.Several.{busy-lowest}
 use Rattle.running.specs.Running.{Box, busy, Deed, does, Called, started, called}
-use Rattle.running.specs.Neighbours.{Fed, callsOf, drainedBy, fedWith, quietly, accepted, ofScript, enough, Quiets, inRange, HasRuns}
+use Rattle.running.specs.Neighbours.{Fed, callsOf, isSingle, drainedBy, fedWith, quietly, accepted, ofScript, enough, Quiets, inRange, HasRuns}
 use Rattle.running.proofs.Starts.{Bears}
 use Rattle.running.proofs.Drains.{says-so, one-statement, quiet-idle}
 use Rattle.running.proofs.Following.{Follows, start-follows, answers, follows-on, busy-is}
@@ -154,6 +154,8 @@ module _ (t : Table) (s : Script) (n : ℕ) (a : Bears t s n) where
     in-range c (byte x) i e = rw i
     in-range c (reading r) i e = rw (i, e)
     in-range c (level m on) i e = rw (i, e)
+    in-range c (ticks m) i e = true-is-false (sym e)
+    in-range c (bytes run m) i e = true-is-false (sym e)
     in-range c (drain room) i e = true-is-false (sym e)
 
     all-right : (es : List Call) → all inRange es ≡ true → (b : calls.Box) (c : Box) (f : ℕ → ℕ) → Follows t n b c f → busy c ≡ false → Right c es
@@ -180,11 +182,23 @@ is-event tick e = refl
 is-event (byte x) e = refl
 is-event (reading r) e = refl
 is-event (level n on) e = refl
+is-event (ticks n) e = refl
+is-event (bytes run room) e = refl
 is-event (drain room) e = e
 
-all-events : (es : List Call) → all inRange es ≡ true → all isEvent es ≡ true
-all-events [] e = refl
-all-events (q ∷ es) e = both (isEvent q) _ (is-event q (both-left (inRange q) _ e)) (all-events es (both-right (inRange q) _ e))
+is-single : (q : Call) → inRange q ≡ true → isSingle q ≡ true
+is-single start e = refl
+is-single tick e = refl
+is-single (byte x) e = refl
+is-single (reading r) e = refl
+is-single (level n on) e = refl
+is-single (ticks n) e = e
+is-single (bytes run room) e = e
+is-single (drain room) e = refl
+
+all-too : (test : Call → Bool) → ((q : Call) → inRange q ≡ true → test q ≡ true) → (es : List Call) → all inRange es ≡ true → all test es ≡ true
+all-too test f [] e = refl
+all-too test f (q ∷ es) e = both (test q) _ (f q (both-left (inRange q) _ e)) (all-too test f es (both-right (inRange q) _ e))
 
 -- THE THEOREM
 pub quiets : Quiets
@@ -205,8 +219,8 @@ has-runs text t k c b es e rooms w l =
     let r = from-start t s k a rooms w l b (started s) es e in
     let p = same-run c 0 fs es calls-are b (started s) in
     record {
-      run = record { calls = calls-are; quiet = p .quiet ∙ r .quiet };
-      events = all-events es e;
+      run = record { calls = calls-are; single = all-too isSingle is-single es e; quiet = p .quiet ∙ r .quiet };
+      events = all-too isEvent is-event es e;
       taken = p .taken ∙ r .taken;
       buffers = their-buffers t s k a rooms w l (start ∷ es);
     }

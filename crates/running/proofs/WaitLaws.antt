@@ -11,7 +11,7 @@ use Rattle.reader.proofs.Tests.{true-is-false, by-cases}
 use Rattle.language.specs.Script.{Statement}
 use Rattle.process.specs.Waiting.{sameLevel}
 use Rattle.process.specs.State.{any}
-use Rattle.runner.specs.Calls.{Call, start, tick, byte, reading, level, drain}
+use Rattle.runner.specs.Calls.{Call, start, tick, byte, reading, level, ticks, bytes, drain}
 use Rattle.running.specs.Running.{Wait, forNothing, forTicks, forBytes, forClock, forSignal, ticked, gets, read, levelled, unlessZero, unlessHolds, Process, Box, does}
 use Rattle.running.specs.Waits.{eventOn, since, count, isTick, isReceived, readingMatches, setsLevel, EndsAtLast, EndsAtFirst, WaitsEnd, WaitsBegin}
 use Rattle.running.proofs.DataWaits.{stays-over, data-wait}
@@ -53,6 +53,8 @@ time-less tick n = refl
 time-less (byte x) n = refl
 time-less (reading r) n = refl
 time-less (level m is) n = refl
+time-less (ticks m) n = refl
+time-less (bytes run room) n = refl
 time-less (drain room) n = refl
 
 bytes-less : (e : Call) (n : ℕ) → eventOn e (forBytes n) ≡ cond (isReceived e) (cond (leb n 1) forNothing (forBytes (n - 1))) (forBytes n)
@@ -62,6 +64,8 @@ bytes-less tick n = refl
 bytes-less (byte x) n = refl
 bytes-less (reading r) n = refl
 bytes-less (level m is) n = refl
+bytes-less (ticks m) n = refl
+bytes-less (bytes run room) n = refl
 bytes-less (drain room) n = refl
 
 -- ---- waits of a test
@@ -95,6 +99,8 @@ clock-first vs tick = refl
 clock-first vs (byte x) = refl
 clock-first vs (reading r) = refl
 clock-first vs (level m is) = refl
+clock-first vs (ticks m) = refl
+clock-first vs (bytes run room) = refl
 clock-first vs (drain room) = refl
 
 signal-first : (n : ℕ) (on : Bool) (e : Call) → eventOn e (forSignal n on) ≡ cond (setsLevel n on e) forNothing (forSignal n on)
@@ -104,6 +110,8 @@ signal-first n on tick = refl
 signal-first n on (byte x) = refl
 signal-first n on (reading r) = refl
 signal-first n on (level m is) = refl
+signal-first n on (ticks m) = refl
+signal-first n on (bytes run room) = refl
 signal-first n on (drain room) = refl
 
 -- THE THEOREM

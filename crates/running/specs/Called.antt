@@ -4,20 +4,22 @@ use mathlib.Core.Path.{_≡_}
 use mathlib.Core.Bool.{Bool, true, false, cond, _&&_}
 use mathlib.Core.List.{List, [], _∷_, _++_, map}
 use Prim.Native.Nat.{ℕ, zero, suc, _+_, _%_, _≤_, _<_}
-use lib.ListN.{length, getD}
+use lib.ListN.{length, getD, take, replicate}
 use lib.Dec.{eqb}
 use Rattle.language.specs.Script.{Statement, send, loop, end, waitTime, waitData, waitByte, waitClock, waitSignal, rts, log, fchange, pause, resume, nop, Script}
 use Rattle.process.specs.declared.Received.the-variants as received
+use Rattle.process.specs.declared.Gulp.{Gulp}
+use Rattle.process.specs.declared.Gulped.the-variants as gulped
 use Rattle.process.specs.declared.Copies.{Copies}
 use Rattle.process.specs.State.{any}
 use Rattle.statement.specs.declared.outcome.Outcome.{Outcome}
 use Rattle.statement.specs.declared.outcome.Outcome.the-variants.{Quiet, Sent, Recorded, Rts, Fchange, Pause, Resume, Plain, Refused}
 use Rattle.record.specs.Logging.{recordOf}
 use Rattle.runner.specs.Calls as calls
-use Rattle.runner.specs.Calls.{Call, start, tick, byte, reading, level, drain, Reply, event, outcome}
-use Rattle.bounded.specs.Replies.{wasTaken, isEvent}
+use Rattle.runner.specs.Calls.{Call, start, tick, byte, reading, level, ticks, bytes, drain, Reply, event, gulp, outcome}
+use Rattle.bounded.specs.Replies.{wasTaken, isEvent, tookMany}
 use Rattle.running.specs.Running.{Process, Box, Next, idle, statement, next, ready, busy, Deed, does, Called, timesRecorded, waiting, atFirst, called}
-use Rattle.running.specs.Waits.{eventOn, since}
+use Rattle.running.specs.Waits.{since}
 use Rattle.language.specs.Limits.{drainLeast, wide}
 
 -- ---- some calls, one after the other
@@ -38,14 +40,34 @@ isStart tick = false
 isStart (byte x) = false
 isStart (reading r) = false
 isStart (level n on) = false
+isStart (ticks n) = false
+isStart (bytes run room) = false
 isStart (drain room) = false
 
--- the events among them that are taken
+-- how many single events a reply says were taken by a gulp
+abbrev pub manyIn : Reply → ℕ
+manyIn (event a) = 0
+manyIn (calls.received a) = 0
+manyIn (gulp a records) = tookMany a
+manyIn (outcome o written) = 0
+
+-- the single events that a call was, by its reply: of a gulp those that it took
+unfoldable pub singles : Call → Reply → List Call
+singles start r = start ∷ []
+singles tick r = tick ∷ []
+singles (byte x) r = byte x ∷ []
+singles (reading x) r = reading x ∷ []
+singles (level n on) r = level n on ∷ []
+singles (ticks n) r = replicate (manyIn r) tick
+singles (bytes run room) r = map byte (take (manyIn r) run)
+singles (drain room) r = drain room ∷ []
+
+-- the single events among them that are taken
 unfoldable pub takenIn : Script → Box → List Call → List Call
 takenIn s b [] = []
 takenIn s b (q ∷ qs) =
     let rest = takenIn s (called s q b .box) qs in
-    cond (isEvent q && wasTaken (called s q b .reply)) (q ∷ rest) rest
+    cond (isEvent q && wasTaken (called s q b .reply)) (singles q (called s q b .reply) ++ rest) rest
 
 -- process k is ready before none of them
 unfoldable pub waitsOn : Script → ℕ → Box → List Call → Bool
@@ -55,11 +77,11 @@ waitsOn s k b (q ∷ qs) = cond (ready (process k b)) false (waitsOn s k (called
 -- ---- events
 
 -- "An event is taken only when no process is ready." One that is not taken alters nothing; one that is acts on the wait of every process, and on nothing
--- else of it. A byte too, however often it is recorded: "It counts for waits in every case."
+-- else of it; a gulp as the single events that it took. A byte too, however often it is recorded: "It counts for waits in every case."
 pub record EventTaken (b : Box) (q : Call) (r : Called) : Type 0 where
   pub only : wasTaken (r .reply) ≡ true → busy b ≡ false
   pub unaltered : wasTaken (r .reply) ≡ false → r .box ≡ b
-  pub acts : wasTaken (r .reply) ≡ true → r .box .processes ≡ map (waiting (eventOn q)) (b .processes)
+  pub acts : wasTaken (r .reply) ≡ true → r .box .processes ≡ map (waiting (since (singles q (r .reply)))) (b .processes)
 
 -- "since it began": through any calls but a start, a process that is not ready has its wait changed by the events that are taken, one after the other, and
 -- stays otherwise as it was, whatever the other processes do
@@ -119,7 +141,8 @@ pausedSince (Refused r) p = p
 abbrev pub pausedSaid : Reply → Bool → Bool
 pausedSaid (event a) p = p
 pausedSaid (calls.received a) p = p
-pausedSaid (outcome o bytes) p = pausedSince o p
+pausedSaid (gulp a records) p = p
+pausedSaid (outcome o written) p = pausedSince o p
 
 -- "PAUSE and RESUME act from the next byte"; a start begins unpaused
 unfoldable pub pausedAfter : Call → Reply → Bool → Bool
@@ -128,6 +151,8 @@ pausedAfter tick r p = p
 pausedAfter (byte x) r p = p
 pausedAfter (reading x) r p = p
 pausedAfter (level n on) r p = p
+pausedAfter (ticks n) r p = p
+pausedAfter (bytes run room) r p = p
 pausedAfter (drain room) r p = pausedSaid r p
 
 -- the replies to some calls say whether it is paused after them
@@ -135,11 +160,18 @@ unfoldable pub pausedThen : Script → Box → List Call → Bool → Bool
 pausedThen s b [] p = p
 pausedThen s b (q ∷ qs) p = pausedThen s (called s q b .box) qs (pausedAfter q (called s q b .reply) p)
 
--- after any calls: paused exactly as the outcomes up to now said, and a byte that is taken is recorded as often as document 01 says
+-- the records of some bytes, each as often as document 01 says
+unfoldable pub recordsOf : Script → Bool → List ℕ → List ℕ
+recordsOf s paused [] = []
+recordsOf s paused (x ∷ xs) = replicate (timesRecorded (s .settings) paused x) x ++ recordsOf s paused xs
+
+-- after any calls: paused exactly as the outcomes up to now said, and a byte that is taken is recorded as often as document 01 says, one of a gulp too
 pub record RecordedRight (s : Script) (b : Box) (qs : List Call) : Type 0 where
   pub paused : boxAfter s b qs .paused ≡ pausedThen s b qs (b .paused)
   pub copied : (x : ℕ) (c : Copies) → called s (byte x) (boxAfter s b qs) .reply ≡ calls.received (received.Took c) →
       c .count ≡ timesRecorded (s .settings) (pausedThen s b qs (b .paused)) x
+  pub gulped : (run : List ℕ) (room : ℕ) (g : Gulp) (bs : List ℕ) → called s (bytes run room) (boxAfter s b qs) .reply ≡ gulp (gulped.Took g) bs →
+      bs ≡ recordsOf s (pausedThen s b qs (b .paused)) (take (g .taken) run)
 
 -- ---- LOG counts
 
@@ -178,6 +210,8 @@ logs k n tick b = false
 logs k n (byte x) b = false
 logs k n (reading r) b = false
 logs k n (level m on) b = false
+logs k n (ticks m) b = false
+logs k n (bytes run room) b = false
 logs k n (drain room) b = wide room && logsIn k n (b .processes)
 
 -- how often some calls do so

@@ -18,7 +18,7 @@ use Rattle.process.specs.State as states
 use Rattle.events.specs.Events.{readingRight}
 use Rattle.runner.specs.Draining as draining
 use Rattle.runner.specs.Calls as runner
-use Rattle.runner.specs.Calls.{Call, start, tick, byte, reading, level, drain, Reply, event, received, outcome}
+use Rattle.runner.specs.Calls.{Call, start, tick, byte, reading, level, ticks, bytes, drain, Reply, event, received, gulp, outcome}
 use Rattle.bounded.specs.Replies as bounded
 use Rattle.bounded.specs.Replies.{Compiles, did, wasTaken, isEvent}
 use Rattle.bounded.specs.Demand3.{fresh, firstOf, endOf}
@@ -48,6 +48,17 @@ pub record Fed : Type 0 where
 abbrev pub callsOf : List Fed → List Call
 callsOf fs = map (λ (f : Fed). f .call) fs
 
+-- a call that is no gulp: how many a gulp takes may hang on any process, so the two runs are fed single events
+abbrev pub isSingle : Call → Bool
+isSingle start = true
+isSingle tick = true
+isSingle (byte x) = true
+isSingle (reading r) = true
+isSingle (level n on) = true
+isSingle (ticks n) = false
+isSingle (bytes run room) = false
+isSingle (drain room) = true
+
 -- what is compared, of a start or an event: the replies of process k in the drains after it, and what is kept of process k after them
 pub record Part (X : Type 0) : Type 0 where
   pub replies : List Reply
@@ -57,7 +68,8 @@ pub record Part (X : Type 0) : Type 0 where
 abbrev pub didOne : Reply → Bool
 didOne (event a) = false
 didOne (received a) = false
-didOne (outcome o bytes) = did o
+didOne (gulp a records) = false
+didOne (outcome o written) = did o
 
 module _ {B X : Type 0} (m : Kind B X) where
   -- the box after some drains
@@ -77,6 +89,7 @@ module _ {B X : Type 0} (m : Kind B X) where
   -- a run: a start with its drains, and then the events, each with its drains
   pub record Run (b : B) (es : List Call) (fs : List Fed) : Type 0 where
     pub calls : callsOf fs ≡ start ∷ es
+    pub single : all isSingle es ≡ true
     pub quiet : quietly b fs ≡ true
 
   -- what process k says in a drain: its reply, if it did a statement while k was the lowest-numbered ready process
@@ -116,7 +129,7 @@ ofScript s =
 abbrev pub Agree : ℕ → Script → Script → Type 0
 Agree k s r = getD (done (s .body)) k [] ≡ getD (done (r .body)) k []
 
--- No. 10 of any two scripts: any calls may stand among the events, an event may be refused, and a buffer may be too small
+-- No. 10 of any two scripts: any calls but gulps may stand among the events, an event may be refused, and a buffer may be too small
 abbrev pub ScriptsApart : Type 0
 ScriptsApart =
     -- "Take two .. scripts .. that agree in process k"
@@ -147,8 +160,8 @@ ofTable t =
 abbrev pub AgreeInLines : ℕ → Script → Script → Type 0
 AgreeInLines k s r = getD (processes (s .body)) k [] ≡ getD (processes (r .body)) k []
 
--- No. 10 of the runner with the tables of two accepted texts, whatever the two boxes held before. The f: settings need not be equal, any calls may stand
--- among the events, an event may be refused, and a buffer may be too small
+-- No. 10 of the runner with the tables of two accepted texts, whatever the two boxes held before. The f: settings need not be equal, any calls but gulps
+-- may stand among the events, an event may be refused, and a buffer may be too small
 abbrev pub BoxesApart : Type 0
 BoxesApart =
     -- "Take two accepted scripts"
@@ -211,6 +224,8 @@ inRange tick = true
 inRange (byte x) = true
 inRange (reading r) = readingRight r
 inRange (level n on) = ltb n signals
+inRange (ticks n) = false
+inRange (bytes run room) = false
 inRange (drain room) = false
 
 -- so every list of such events can be fed as No. 10 asks, with so many drains after the start and after each

@@ -11,17 +11,20 @@ use Rattle.process.specs.declared.Reading.{Reading}
 use Rattle.process.specs.declared.RunRefusal.{RunRefusal}
 use Rattle.process.specs.declared.RunRefusal.the-variants.{Busy, BadReading, NoSuchSignal, SmallBuffer}
 use Rattle.process.specs.declared.Taken.the-variants as taken
+use Rattle.process.specs.declared.Received.{Received}
 use Rattle.process.specs.declared.Received.the-variants as received
+use Rattle.process.specs.declared.Gulped.the-variants as gulped
 use Rattle.statement.specs.declared.outcome.Outcome.{Outcome}
 use Rattle.statement.specs.declared.outcome.Outcome.the-variants.{Quiet, Sent, Recorded, Rts, Fchange, Pause, Resume, Plain, Refused}
 use Rattle.process.specs.Waiting.{sameLevel}
 use Rattle.process.specs.State.{any}
 use Rattle.events.specs.Events.{readingRight}
 use Rattle.events.specs.Recording.{oneOf}
+use Rattle.events.specs.Gulps.{Gulping, ticksFrom, bytesFrom}
 use Rattle.record.specs.Logging.{recordOf, nextCount}
 use Rattle.runner.specs.Starting.{noReading}
 use Rattle.runner.specs.Calls as calls
-use Rattle.runner.specs.Calls.{Call, start, tick, reading, level, drain, Reply, event, outcome}
+use Rattle.runner.specs.Calls.{Call, start, tick, reading, level, ticks, bytes, drain, Reply, event, gulp, outcome}
 use Rattle.language.specs.Limits.{signals, wide}
 
 -- ---- what there is
@@ -286,16 +289,29 @@ atFirst ss = record { coming = ss; loops = []; wait = forNothing; counts = λ n.
 unfoldable pub started : Script → Box
 started s = record { processes = map atFirst (done (s .body)); reading = noReading; levels = replicate signals false; paused = false }
 
+-- a tick alone: the box after it
+abbrev pub tickBox : Box → Box
+tickBox b = cond (busy b) b (having (allWaiting ticked b) b)
+
+-- a received byte alone: what it is answered
+abbrev pub byteAnswer : Script → ℕ → Box → Received
+byteAnswer s x b = cond (busy b) (received.Refused Busy) (received.Took (record { count = timesRecorded (s .settings) (b .paused) x }))
+
+-- and the box after it
+abbrev pub byteBox : ℕ → Box → Box
+byteBox x b = cond (busy b) b (having (allWaiting (gets x) b) b)
+
+-- No. 2, "a whole gulp at once": what came of the single events, as a call's answer; "If a process is ready at the outset it takes none": 21
+abbrev pub gulps : Box → Gulping Box → Called
+gulps b g =
+    cond (busy b) (record { box = b; reply = gulp (gulped.Refused Busy) [] })
+    (record { box = g .box; reply = gulp (gulped.Took (record { taken = g .taken; recorded = length (g .records) })) (g .records) })
+
 -- "An event is taken only when no process is ready." 24, then 21, 22, 23; 25 is never answered
 unfoldable pub called : Script → Call → Box → Called
 called s start b = takesEvent (started s)
 called s tick b = cond (busy b) (refuses b Busy) (takesEvent (having (allWaiting ticked b) b))
-called s (calls.byte x) b =
-    cond (busy b) (record { box = b; reply = calls.received (received.Refused Busy) })
-    (record {
-      box = having (allWaiting (gets x) b) b;
-      reply = calls.received (received.Took (record { count = timesRecorded (s .settings) (b .paused) x }));
-    })
+called s (calls.byte x) b = record { box = byteBox x b; reply = calls.received (byteAnswer s x b) }
 called s (reading r) b =
     cond (busy b) (refuses b Busy)
     (cond (readingRight r)
@@ -306,6 +322,8 @@ called s (level n is) b =
     (cond (ltb n signals)
     (takesEvent (record { processes = allWaiting (levelled n is) b; reading = b .reading; levels = set (b .levels) n is; paused = b .paused }))
     (refuses b NoSuchSignal))
+called s (ticks n) b = gulps b (ticksFrom busy tickBox b n)
+called s (bytes run room) b = gulps b (bytesFrom busy (byteAnswer s) byteBox b run room)
 called s (drain room) b =
     cond (wide room) (drained b (turn b (b .processes)))
     (record { box = b; reply = outcome (Refused SmallBuffer) [] })

@@ -8,18 +8,20 @@ use lib.Dec.{eqb}
 use Rattle.language.specs.Script.{Statement, waitTime, waitData, waitByte, waitClock, waitSignal}
 use Rattle.process.specs.Waiting.{sameLevel}
 use Rattle.process.specs.State.{any}
-use Rattle.runner.specs.Calls.{Call, start, tick, byte, reading, level, drain}
+use Rattle.runner.specs.Calls.{Call, start, tick, byte, reading, level, ticks, bytes, drain}
 use Rattle.running.specs.Running.{Wait, forNothing, forTicks, forBytes, forData, forClock, forSignal, endsIn, ticked, gets, units, read, levelled, Process, Box, does}
 
 -- ---- a wait, and the events since it began
 
--- what an event that is taken makes of a wait; a start and a drain are no events
+-- what a single event that is taken makes of a wait; a start and a drain are no events, and a gulp is many
 abbrev pub eventOn : Call → Wait → Wait
 eventOn start w = w
 eventOn tick w = ticked w
 eventOn (byte x) w = gets x w
 eventOn (reading r) w = read r w
 eventOn (level n is) w = levelled n is w
+eventOn (ticks n) w = w
+eventOn (bytes run room) w = w
 eventOn (drain room) w = w
 
 -- what events, one after the other, make of a wait
@@ -39,6 +41,8 @@ isTick tick = true
 isTick (byte x) = false
 isTick (reading r) = false
 isTick (level n is) = false
+isTick (ticks n) = false
+isTick (bytes run room) = false
 isTick (drain room) = false
 
 -- a received byte
@@ -48,6 +52,8 @@ isReceived tick = false
 isReceived (byte x) = true
 isReceived (reading r) = false
 isReceived (level n is) = false
+isReceived (ticks n) = false
+isReceived (bytes run room) = false
 isReceived (drain room) = false
 
 -- a reading that matches the fixed units
@@ -57,6 +63,8 @@ readingMatches vs tick = false
 readingMatches vs (byte x) = false
 readingMatches vs (reading r) = endsIn vs (units r)
 readingMatches vs (level n is) = false
+readingMatches vs (ticks n) = false
+readingMatches vs (bytes run room) = false
 readingMatches vs (drain room) = false
 
 -- the event that sets a signal's level
@@ -66,6 +74,8 @@ setsLevel n on tick = false
 setsLevel n on (byte x) = false
 setsLevel n on (reading r) = false
 setsLevel n on (level m is) = eqb n m && sameLevel on is
+setsLevel n on (ticks m) = false
+setsLevel n on (bytes run room) = false
 setsLevel n on (drain room) = false
 
 -- the bytes received
@@ -76,6 +86,8 @@ receivedIn (tick ∷ es) = receivedIn es
 receivedIn (byte x ∷ es) = x ∷ receivedIn es
 receivedIn (reading r ∷ es) = receivedIn es
 receivedIn (level n is ∷ es) = receivedIn es
+receivedIn (ticks n ∷ es) = receivedIn es
+receivedIn (bytes run room ∷ es) = receivedIn es
 receivedIn (drain room ∷ es) = receivedIn es
 
 -- ---- how a wait ends

@@ -6,11 +6,11 @@ use Rattle.replay.proofs.running.run_all.Statement.{statement}
 use Rattle.replay.proofs.running.run_all.Tie as tie
 
 abbrev Inv-loop : tie.InvT-loop
-Inv-loop cells pool heads counts₀ input input-name page₀ name text₀ block₀ bytes₀ held₀ now₀ turns₀ counts page text block bytes held now turns =
+Inv-loop cells pool heads counts₀ input input-name page₀ name text₀ block₀ run₀ bytes₀ held₀ now₀ turns₀ counts page text block run bytes held now turns =
     Unit {0}
 
 abbrev μ-loop : tie.MeasureT-loop
-μ-loop cells pool heads counts₀ input input-name page₀ name text₀ block₀ bytes₀ held₀ now₀ turns₀ counts page text block bytes held now turns =
+μ-loop cells pool heads counts₀ input input-name page₀ name text₀ block₀ run₀ bytes₀ held₀ now₀ turns₀ counts page text block run bytes held now turns =
     18446744073709551615 - turns
 
 nothing-requires : tie.Need-nothing-requires Inv-loop μ-loop
@@ -49,7 +49,7 @@ turn-requires c κs = search needs
 loop-less : tie.Need-loop-less Inv-loop μ-loop
 loop-less c =
     let asked = c .before .before .before .before .before in
-    let in-loop = asked .before .before .before .before .before .before .before .before .before in
+    let in-loop = asked .before .before .before .before .before .before .before .before .before .before .before in
     omega (arith, in-loop .loop-test .taken)
 
 loop-again : tie.Need-loop-again Inv-loop μ-loop
