@@ -2,6 +2,7 @@ pub mod EventCases
 pub mod Copying
 pub mod DataCases
 pub mod Links
+pub mod Kept
 pub mod ByteCases
 pub mod Ranges
 pub mod Gulping

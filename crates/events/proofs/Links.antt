@@ -29,7 +29,7 @@ module _ (d : List ℕ) (k : ℕ) where
   link-less : 0 < k → link d k < k
   link-less some = omega (arith, link-within)
 
-  link-first : k ≤ 1 → link d k ≡ 0
+  pub link-first : k ≤ 1 → link d k ≡ 0
   link-first h = omega (arith, link-within)
 
   module _ (inside : k ≤ length d) where
@@ -118,30 +118,21 @@ link-more d k some here =
     let n : 1 ≤ length (take k d) = omega (arith, length-take-le k d (omega arith)) in
     rw (add-one k, take-suc d k 0 here, drop-append-le 1 (take k d) (getD d k 0 ∷ []) n) (sym (one-byte d (others d k) (getD d k 0)))
 
--- those of none and of one, in an empty table
-pub linked-first : {d rest : List ℕ} → Linked d (0 ∷ 0 ∷ rest) 1
-linked-first {d} {rest} = record { at = λ j h. zeros j h ∙ sym (link-first d j h) }
-  where
-    zeros : (n : ℕ) → n ≤ 1 → getD (0 ∷ 0 ∷ rest) n 0 ≡ 0
-    zeros zero h = refl
-    zeros (suc zero) h = refl
-    zeros (suc (suc n)) h = absurd (omega arith)
-
 module _ {d ls : List ℕ} {i : ℕ} (there : Linked d ls i) where
   pub linked-fewer : {k : ℕ} → k ≤ i → Linked d ls k
-  linked-fewer h = record { at = λ j l. there .at j (omega arith) }
+  linked-fewer h = record { at = λ j some l. there .at j some (omega arith) }
 
   -- what the table has at j is below j, so that following ends
   pub linked-below : {j x : ℕ} → 0 < j → j ≤ i → x ≡ getD ls j 0 → x < j
-  linked-below {j} some h e = omega (arith, there .at j h, link-less d j some)
+  linked-below {j} some h e = omega (arith, there .at j some h, link-less d j some)
 
   -- one more, from the link of i
   pub linked-more : {j n : ℕ} → 0 < i → i < length d → i + 1 < length ls → j ≡ getD ls i 0 → n ≡ advance d j (getD d i 0) → Linked d (set ls (i + 1) n) (i + 1)
-  linked-more {j} {n} some here room e f = record { at = λ m h. by m h (decLt i m) }
+  linked-more {j} {n} some here room e f = record { at = λ m one h. by m one h (decLt i m) }
     where
-      by : (m : ℕ) → m ≤ i + 1 → Dec (i < m) → getD (set ls (i + 1) n) m 0 ≡ link d m
-      by m h (yes p) =
+      by : (m : ℕ) → 0 < m → m ≤ i + 1 → Dec (i < m) → getD (set ls (i + 1) n) m 0 ≡ link d m
+      by m one h (yes p) =
           let top : m ≡ i + 1 = omega arith in
-          let before : j ≡ link d i = e ∙ there .at i (omega arith) in
+          let before : j ≡ link d i = e ∙ there .at i some (omega arith) in
           rw (top, getD-set-same ls (i + 1) n 0 room, f, before) (sym (link-more d i some here))
-      by m h (no p) = getD-set-other ls (i + 1) m n 0 (λ q. omega arith) ∙ there .at m (omega arith)
+      by m one h (no p) = getD-set-other ls (i + 1) m n 0 (λ q. omega arith) ∙ there .at m one (omega arith)

@@ -5,12 +5,14 @@ ghost use lib.ListN.{length, drop};
 ghost use Rattle.language.specs.Limits.{poolPlaces};
 ghost use Rattle.process.specs.Matching.{advance};
 ghost use Rattle.events.specs.inside.Links.{Linked};
+ghost use Rattle.events.specs.inside.Kept.{Kept};
 ghost use Rattle.events.specs.inside.Passing.{farther, matchedOn, LinkedFor};
 use language::POOL_PLACES;
 use reader::widths::wide;
 
-// At each number of bytes matched, the number that still is where the next byte is another.
-type Links = [u16; POOL_PLACES];
+// At each number of bytes matched, the number that still is where the next byte is another. At 0, which no mismatch reads, how many of them were made:
+// those of 0 and of 1 are 0, and need no making.
+pub(crate) type Links = [u16; POOL_PLACES];
 
 // How many bytes of the data are matched, and after how many of a run.
 pub(crate) struct Matched {
@@ -19,8 +21,8 @@ pub(crate) struct Matched {
 }
 
 // The bytes matched after b, where k were matched before it: a mismatch goes from link to link to what still matches.
-fn followed(want: &[u8], links: &Links, k: usize, b: u8) -> usize
-    requires { ⌜ (k < length (now want)) × (k < poolPlaces) × Linked (now want) (now links) k ⌝ }
+fn followed(want: &[u8], links: &[u16], k: usize, b: u8) -> usize
+    requires { ⌜ (k < length (now want)) × (k < length (now links)) × Linked (now want) (now links) k ⌝ }
     ensures { λ r. ⌜ r ≡ advance (now (want .entry)) k b ⌝ }
 {
     let mut j = k;
@@ -33,19 +35,28 @@ fn followed(want: &[u8], links: &Links, k: usize, b: u8) -> usize
     j + 1
 }
 
-// The links up to k, each made from those before it.
+// The links up to k, each made from those before it, and none that was made before.
+fn make_links(want: &[u8], k: usize, links: &mut [u16])
+    requires { ⌜ (k < length (now want)) × (k < length (now links)) × (k < poolPlaces) × Kept (now want) (now links) ⌝ }
+    ensures { λ r. ⌜ Linked (now (want .entry)) (now (links .exit)) k × Kept (now (want .entry)) (now (links .exit)) ⌝ }
+{
+    let mut i = wide(links[0]) + 1;
+    while i < k {
+        let j = wide(links[i]);
+        let n = followed(want, &links[..], j, want[i]);
+        i += 1;
+        links[i] = n as u16;
+    }
+    links[0] = (i - 1) as u16;
+}
+
+// The links up to k, in a table of their own.
 fn linked(want: &[u8], k: usize) -> Links
     requires { ⌜ (k < length (now want)) × (k < poolPlaces) ⌝ }
     ensures { λ r. ⌜ Linked (now (want .entry)) r k ⌝ }
 {
     let mut links: Links = [0; POOL_PLACES];
-    let mut i = 1;
-    while i < k {
-        let j = wide(links[i]);
-        let n = followed(want, &links, j, want[i]);
-        i += 1;
-        links[i] = n as u16;
-    }
+    make_links(want, k, &mut links);
     links
 }
 
@@ -97,8 +108,8 @@ fn unlinked(want: &[u8], from: usize, run: &[u8]) -> Matched
 }
 
 // A run through the links, up to the byte that matches all of the data.
-fn through_links(want: &[u8], links: &Links, from: usize, run: &[u8]) -> Matched
-    requires { ⌜ (from ≤ length (now want)) × (length (now want) ≤ poolPlaces)
+fn through_links(want: &[u8], links: &[u16], from: usize, run: &[u8]) -> Matched
+    requires { ⌜ (from ≤ length (now want)) × (length (now want) ≤ length (now links))
         × LinkedFor (now want) (now links) from (length (now run)) ⌝ }
     ensures { λ r. ⌜ r ≡ matchedOn (now (want .entry)) from (now (run .entry)) ⌝ }
 {
@@ -128,10 +139,26 @@ fn highest(all: usize, k: usize, n: usize) -> usize
     if n < all - k { k + n } else { all - 1 }
 }
 
-// The bytes matched after a run, up to the first that matches all of the data. The links are made once at most.
-pub(crate) fn matched_run(want: &[u8], from: usize, run: &[u8]) -> Matched
-    requires { ⌜ (from < length (now want)) × (length (now want) ≤ poolPlaces) ⌝ }
-    ensures { λ r. ⌜ r ≡ matchedOn (now (want .entry)) from (now (run .entry)) ⌝ }
+// A run through the links up to k: those that are kept, or, where there is no room for them, a table of their own.
+fn linked_run(want: &[u8], from: usize, run: &[u8], k: usize, kept: &mut [u16]) -> Matched
+    requires { ⌜ (from ≤ length (now want)) × (length (now want) ≤ poolPlaces) × (k < length (now want))
+        × ((j : ℕ) → j < length (now want) → j ≤ from + length (now run) → j ≤ k) × Kept (now want) (now kept) ⌝ }
+    ensures { λ r. ⌜ (r ≡ matchedOn (now (want .entry)) from (now (run .entry)))
+        × Kept (now (want .entry)) (now (kept .exit)) ⌝ }
+{
+    if kept.len() < want.len() {
+        let links = linked(want, k);
+        return through_links(want, &links, from, run);
+    }
+    make_links(want, k, kept);
+    through_links(want, &kept[..], from, run)
+}
+
+// The bytes matched after a run, up to the first that matches all of the data. A link that is kept is not made again.
+pub(crate) fn matched_run(want: &[u8], from: usize, run: &[u8], kept: &mut [u16]) -> Matched
+    requires { ⌜ (from < length (now want)) × (length (now want) ≤ poolPlaces) × Kept (now want) (now kept) ⌝ }
+    ensures { λ r. ⌜ (r ≡ matchedOn (now (want .entry)) from (now (run .entry)))
+        × Kept (now (want .entry)) (now (kept .exit)) ⌝ }
 {
     let first = unlinked(want, from, run);
     let at = first.count;
@@ -142,8 +169,8 @@ pub(crate) fn matched_run(want: &[u8], from: usize, run: &[u8]) -> Matched
         return first;
     }
     let rest = &run[at..];
-    let links = linked(want, highest(want.len(), first.matched, rest.len()));
-    let last = through_links(want, &links, first.matched, rest);
+    let k = highest(want.len(), first.matched, rest.len());
+    let last = linked_run(want, first.matched, rest, k, kept);
     Matched {
         matched: last.matched,
         count: at + last.count,

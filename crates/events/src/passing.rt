@@ -5,12 +5,15 @@ ghost use mathlib.Core.List.{map};
 ghost use Prim.Native.Nat.{_≤_, _<_};
 ghost use lib.ListN.{length, take};
 ghost use Rattle.process.specs.declared.Wait.the-variants.{Bytes, Data};
-ghost use Rattle.process.specs.Waiting.{readyWait, ready, progressRight, waitRight, rangeRight};
+ghost use Rattle.process.specs.Waiting.{readyWait, ready, awaited, progressRight, waitRight, rangeRight};
 ghost use Rattle.process.specs.State.{any};
 ghost use Rattle.reader.specs.Bytes.{all};
+ghost use Rattle.events.specs.inside.Kept.{Kept, dataOf, placesFor, KeptFrom};
 ghost use Rattle.events.specs.inside.Passing.{atLeast1, passedBy, endedAt, reachAll, bytesOn, Passes};
+use crate::matching::Links;
 use crate::matching::matched_run;
 use crate::receiving::awaited_data;
+use language::POOL_PLACES;
 use language::PROCESS_PLACES;
 use language::Pool;
 use process::Process;
@@ -80,12 +83,20 @@ fn bytes_passed(n: u16, pool: &Pool, run: &[u8], place: u16, end: u16) -> Passed
     ended(last, all, place, end)
 }
 
-fn data_passed(m: Progress, pool: &Pool, run: &[u8], place: u16, end: u16) -> Passed
-    requires { ⌜ progressRight m ≡ true ⌝ }
-    ensures { λ r. ⌜ r ≡ passedBy (now (pool .entry)) place end (now (run .entry)) (Data m) ⌝ }
+fn data_passed(
+    m: Progress,
+    pool: &Pool,
+    run: &[u8],
+    place: u16,
+    end: u16,
+    kept: &mut [u16],
+) -> Passed
+    requires { ⌜ (progressRight m ≡ true) × Kept (awaited (now pool) m) (now kept) ⌝ }
+    ensures { λ r. ⌜ (r ≡ passedBy (now (pool .entry)) place end (now (run .entry)) (Data m))
+        × Kept (awaited (now (pool .entry)) m) (now (kept .exit)) ⌝ }
 {
     let want = awaited_data(pool, m);
-    let r = matched_run(want, wide(m.matched), run);
+    let r = matched_run(want, wide(m.matched), run, kept);
     if r.matched == want.len() {
         return ended(r.count, run.len(), place, end);
     }
@@ -99,13 +110,14 @@ fn data_passed(m: Progress, pool: &Pool, run: &[u8], place: u16, end: u16) -> Pa
     }
 }
 
-fn wait_passed(w: Wait, pool: &Pool, run: &[u8], place: u16, end: u16) -> Passed
-    requires { ⌜ (waitRight w ≡ true) × (readyWait w ≡ false) ⌝ }
-    ensures { λ r. ⌜ r ≡ passedBy (now (pool .entry)) place end (now (run .entry)) w ⌝ }
+fn wait_passed(w: Wait, pool: &Pool, run: &[u8], place: u16, end: u16, kept: &mut [u16]) -> Passed
+    requires { ⌜ (waitRight w ≡ true) × (readyWait w ≡ false) × Kept (dataOf (now pool) w) (now kept) ⌝ }
+    ensures { λ r. ⌜ (r ≡ passedBy (now (pool .entry)) place end (now (run .entry)) w)
+        × Kept (dataOf (now (pool .entry)) w) (now (kept .exit)) ⌝ }
 {
     match w {
         Wait::Bytes(n) => bytes_passed(n, pool, run, place, end),
-        Wait::Data(m) => data_passed(m, pool, run, place, end),
+        Wait::Data(m) => data_passed(m, pool, run, place, end, kept),
         _ => Passed {
             wait: w,
             count: run.len(),
@@ -113,22 +125,43 @@ fn wait_passed(w: Wait, pool: &Pool, run: &[u8], place: u16, end: u16) -> Passed
     }
 }
 
-// One process after the other, each no farther than those before it.
-fn pass_each(ps: [Process; PROCESS_PLACES], pool: &Pool, run: &[u8]) -> Pass
-    requires { ⌜ (all rangeRight ps ≡ true) × (any ready ps ≡ false) ⌝ }
-    ensures { λ r. ⌜ Passes (now (pool .entry)) (now (run .entry)) ps r ⌝ }
+// As many places as the data of WAIT DATA have bytes; none where so many are not left, as in no accepted table.
+fn links_places(m: Progress, left: usize) -> usize
+    ensures { λ r. ⌜ r ≡ placesFor (Data m) left ⌝ }
+{
+    let n = wide(m.count);
+    if left < n { 0 } else { n }
+}
+
+// The places for the links of a wait, of those that are left.
+fn places_for(w: Wait, left: usize) -> usize
+    ensures { λ r. ⌜ r ≡ placesFor w left ⌝ }
+{
+    match w {
+        Wait::Data(m) => links_places(m, left),
+        _ => 0,
+    }
+}
+
+// One process after the other, each no farther than those before it. The links of each stand behind those of the one before it.
+fn pass_each(ps: [Process; PROCESS_PLACES], pool: &Pool, run: &[u8], links: &mut [u16]) -> Pass
+    requires { ⌜ (all rangeRight ps ≡ true) × (any ready ps ≡ false) × KeptFrom (now pool) (now links) 0 ps ⌝ }
+    ensures { λ r. ⌜ Passes (now (pool .entry)) (now (run .entry)) ps r × KeptFrom (now (pool .entry)) (now (links .exit)) 0 ps ⌝ }
 {
     let mut next = ps;
     let mut n = run.len();
     let mut again = false;
+    let mut from = 0;
     for i in 0..PROCESS_PLACES {
         let p = ps[i];
         let w = p.wait;
-        let r = wait_passed(w, pool, first(run, n), p.place, p.end);
+        let to = from + places_for(w, links.len() - from);
+        let r = wait_passed(w, pool, first(run, n), p.place, p.end, &mut links[from..to]);
         if r.count < n {
             again = 0 < i;
         }
         n = r.count;
+        from = to;
         let after = r.wait;
         next[i] = p.with(after);
     }
@@ -139,15 +172,16 @@ fn pass_each(ps: [Process; PROCESS_PLACES], pool: &Pool, run: &[u8]) -> Pass
     }
 }
 
-// All processes after the bytes that are taken of a run.
+// All processes after the bytes that are taken of a run. A second time through them finds the links that the first has made.
 pub(crate) fn pass_run(ps: [Process; PROCESS_PLACES], pool: &Pool, run: &[u8]) -> Pass
     requires { ⌜ (all rangeRight ps ≡ true) × (any ready ps ≡ false) ⌝ }
     ensures { λ r. ⌜ (r .count ≡ reachAll (now (pool .entry)) (now (run .entry)) ps)
         × (r .processes ≡ map (bytesOn (now (pool .entry)) (take (r .count) (now (run .entry)))) ps) ⌝ }
 {
-    let r = pass_each(ps, pool, run);
+    let mut links: Links = [0; POOL_PLACES];
+    let r = pass_each(ps, pool, run, &mut links);
     if r.again {
-        return pass_each(ps, pool, first(run, r.count));
+        return pass_each(ps, pool, first(run, r.count), &mut links);
     }
     r
 }

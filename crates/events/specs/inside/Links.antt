@@ -9,9 +9,9 @@ use Rattle.process.specs.Matching.{last, progress}
 unfoldable pub link : List ℕ → ℕ → ℕ
 link d k = progress d (drop 1 (take k d))
 
--- the table ls has the link of each count up to k
+-- the table ls has the link of each count up to k, but for that of 0, which no mismatch follows
 pub record Linked (d ls : List ℕ) (k : ℕ) : Type 0 where
-  pub at : (j : ℕ) → j ≤ k → getD ls j 0 ≡ link d j
+  pub at : (j : ℕ) → 0 < j → j ≤ k → getD ls j 0 ≡ link d j
 
 -- j is the largest number below k such that so many bytes of d, from its first, are the last of its first k
 pub record LongestBorder (d : List ℕ) (k j : ℕ) : Type 0 where

@@ -103,7 +103,7 @@ matchedOn d k (x ∷ xs) = cond (eqb k (length d)) (record { matched = k; count 
 
 -- the table ls has the link of each count below all of d that n bytes can lead to from k
 pub record LinkedFor (d ls : List ℕ) (k n : ℕ) : Type 0 where
-  pub at : (j : ℕ) → j < length d → j ≤ k + n → getD ls j 0 ≡ link d j
+  pub at : (j : ℕ) → 0 < j → j < length d → j ≤ k + n → getD ls j 0 ≡ link d j
 
 -- ---- recording
 

@@ -1,7 +1,9 @@
 -- `events::matching::advanced` meets its contract: a byte that goes on with the match, or comes where nothing is matched, needs no links. Assumes nothing.
+use mathlib.Core.Path.{_≡_}
 use native.Mathlib.Omega.{arith}
+use lib.ListN.{length}
 use borrow.Author.Needs.{needs}
-use Rattle.events.proofs.Links.{advance-hit, advance-none, linked-fewer}
+use Rattle.events.proofs.Links.{advance-hit, advance-none}
 use Rattle.events.proofs.matching.advanced.Statement.{statement}
 use Rattle.events.proofs.matching.advanced.Tie as tie
 
@@ -25,8 +27,14 @@ returns-2 c =
 linked-requires : tie.Need-linked-requires
 linked-requires c κs = search needs
 
+slice-aggregate-followed : tie.Need-slice-aggregate-followed
+slice-aggregate-followed c = search needs
+
 followed-requires : tie.Need-followed-requires
-followed-requires c κs = (omega arith, omega arith, linked-fewer (c .before .linked .ensures) (omega arith))
+followed-requires c κs =
+    let p = c .before .before .before .before .before .before .pre in
+    let n : length (c .before .linked .result) ≡ 1024 = search needs in
+    (p .0, omega (arith, n, p .1), c .before .linked .ensures)
 
 returns-3 : tie.Need-returns-3
 returns-3 c = c .followed .ensures
@@ -40,5 +48,6 @@ advanced-spec =
     returns
     returns-2
     linked-requires
+    slice-aggregate-followed
     followed-requires
     returns-3)

@@ -29,8 +29,8 @@ returns c =
 mul-wide : tie.Need-mul-wide Inv-loop μ-loop
 mul-wide c = search needs
 
-element-copy-out-wide : tie.Need-element-copy-out-wide Inv-loop μ-loop
-element-copy-out-wide c = search needs
+shared-slice-read-wide : tie.Need-shared-slice-read-wide Inv-loop μ-loop
+shared-slice-read-wide c = search needs
 
 wide-requires : tie.Need-wide-requires Inv-loop μ-loop
 wide-requires c κs = search needs
@@ -38,17 +38,17 @@ wide-requires c κs = search needs
 loop-less : tie.Need-loop-less Inv-loop μ-loop
 loop-less c =
     let at-loop = c .before .before .before .before .before in
-    let at-entry = at-loop .before .before in
+    let at-entry = at-loop .before .before .before in
     linked-below (at-entry .pre .2) (omega arith) (at-loop .loop .inv .0) (c .wide .ensures)
 
 loop-again : tie.Need-loop-again Inv-loop μ-loop
 loop-again c =
     let at-if1 = c .before .before .before in
     let at-loop = at-if1 .before .before in
-    let at-entry = at-loop .before .before in
+    let at-entry = at-loop .before .before .before in
     let l = at-loop .loop in
     let some : 0 < l .j = omega arith in
-    let here = c .wide .ensures ∙ at-entry .pre .2 .at (l .j) (l .inv .0) in (
+    let here = c .wide .ensures ∙ at-entry .pre .2 .at (l .j) some (l .inv .0) in (
       omega (arith, linked-below (at-entry .pre .2) some (l .inv .0) (c .wide .ensures)),
       rw here (l .inv .1 ∙ advance-link _ (l .j) _ (omega arith) (at-if1 .if1 .taken) some),
     )
@@ -71,7 +71,7 @@ followed-spec =
     shared-slice-read-if1
     returns
     mul-wide
-    element-copy-out-wide
+    shared-slice-read-wide
     wide-requires
     loop-less
     loop-again

@@ -18,16 +18,20 @@ unlinked-requires c κs = search needs
 returns : tie.Need-returns
 returns c =
     let at-unlinked = c .before .before in
-    let a = at-unlinked .before .before .before .args in
+    let at-entry = at-unlinked .before .before .before .before in
+    let a = at-entry .args in
     let r = at-unlinked .unlinked .result in
-    matched-whole (now (a .want)) (a .from) (r .count) (r .matched) (now (a .run)) (at-unlinked .unlinked .ensures .0) (c .if1 .taken)
+    (matched-whole (now (a .want)) (a .from) (r .count) (r .matched) (now (a .run)) (at-unlinked .unlinked .ensures .0) (c .if1 .taken), at-entry .pre .2)
 
 returns-2 : tie.Need-returns-2
 returns-2 c =
     let at-unlinked = c .before .before .before in
-    let a = at-unlinked .before .before .before .args in
-    let r = at-unlinked .unlinked .result in
-    matched-end (now (a .want)) (a .from) (r .count) (r .matched) (now (a .run)) (at-unlinked .unlinked .ensures .0) (drop-of-length-le (now (a .run)) {i = r .count} (omega (arith, c .if2 .taken)))
+    let at-entry = at-unlinked .before .before .before .before in
+    let a = at-entry .args in
+    let r = at-unlinked .unlinked .result in (
+      matched-end (now (a .want)) (a .from) (r .count) (r .matched) (now (a .run)) (at-unlinked .unlinked .ensures .0) (drop-of-length-le (now (a .run)) {i = r .count} (omega (arith, c .if2 .taken))),
+      at-entry .pre .2,
+    )
 
 sub-rest : tie.Need-sub-rest
 sub-rest c = search needs
@@ -41,34 +45,33 @@ part-rest-end c = search needs
 highest-requires : tie.Need-highest-requires
 highest-requires c κs = search needs
 
-linked-requires : tie.Need-linked-requires
-linked-requires c κs = search needs
+linked-run-requires : tie.Need-linked-run-requires
+linked-run-requires c κs = search needs
 
-through-links-requires : tie.Need-through-links-requires
-through-links-requires c κs =
-    let at-unlinked = c .before .before .before .before .before .before .before in
-    let at-entry = at-unlinked .before .before .before in (
-      at-unlinked .unlinked .ensures .1,
-      at-entry .pre .1,
-      record { at = λ j h l. c .before .linked .ensures .at j (c .before .before .highest .ensures .2 j h l) },
-    )
-
-add-t9 : tie.Need-add-t9
-add-t9 c =
-    let at-unlinked = c .before .before .before .before .before .before .before .before .before in
-    let a = at-unlinked .before .before .before .args in
+add-t10 : tie.Need-add-t10
+add-t10 c =
+    let at-linked = c .before .before .before in
+    let at-unlinked = at-linked .before .before .before .before .before .before .before in
+    let at-entry = at-unlinked .before .before .before .before in
+    let a = at-entry .args in
     let r = at-unlinked .unlinked .result in
     let rest = rest-is (now (a .run)) (r .count) in
-    let e = ap (λ (z : Matched). z .count) (c .before .through-links .ensures) ∙ ap (λ (l : List ℕ). matchedOn (now (a .want)) (r .matched) l .count) rest in
-    omega (arith, e, matched-few (now (a .want)) (r .matched) (drop (r .count) (now (a .run))) (at-unlinked .unlinked .ensures .1), length-drop (r .count) (now (a .run)), at-unlinked .unlinked .ensures .2)
+    let e = ap (λ (z : Matched). z .count) (at-linked .linked-run .ensures .0) ∙ ap (λ (l : List ℕ). matchedOn (now (a .want)) (r .matched) l .count) rest in
+    omega (arith, e, matched-few (now (a .want)) (r .matched) (drop (r .count) (now (a .run))) (at-unlinked .unlinked .ensures .1), length-drop (r .count) (now (a .run)), at-unlinked .unlinked .ensures .2, at-entry .good .1 .1 .0 .0)
+
+same-length : tie.Need-same-length
+same-length c = search needs
 
 returns-3 : tie.Need-returns-3
 returns-3 c =
-    let at-unlinked = c .before .before .before .before .before .before .before .before .before in
-    let a = at-unlinked .before .before .before .args in
-    let r = at-unlinked .unlinked .result in
-    ap (farther (r .count)) (c .before .through-links .ensures ∙ ap (matchedOn (now (a .want)) (r .matched)) (rest-is (now (a .run)) (r .count)))
-    ∙ sym (at-unlinked .unlinked .ensures .0)
+    let at-linked = c .before .before .before in
+    let at-unlinked = at-linked .before .before .before .before .before .before .before in
+    let a = at-unlinked .before .before .before .before .args in
+    let r = at-unlinked .unlinked .result in (
+      ap (farther (r .count)) (at-linked .linked-run .ensures .0 ∙ ap (matchedOn (now (a .want)) (r .matched)) (rest-is (now (a .run)) (r .count)))
+          ∙ sym (at-unlinked .unlinked .ensures .0),
+      at-linked .linked-run .ensures .1,
+    )
 
 pub matched-run-spec : {M : Type 1} → statement M
 matched-run-spec =
@@ -81,7 +84,7 @@ matched-run-spec =
     part-rest-start
     part-rest-end
     highest-requires
-    linked-requires
-    through-links-requires
-    add-t9
+    linked-run-requires
+    add-t10
+    same-length
     returns-3)

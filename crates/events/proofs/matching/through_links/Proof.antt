@@ -20,12 +20,12 @@ abbrev μ-loop : tie.MeasureT-loop
 μ-loop want links from run k₀ i₀ k i = length run - i
 
 loop-holds : tie.Need-loop-holds Inv-loop μ-loop
-loop-holds c = let a = c .before .before .args in (omega arith, c .before .before .pre .0, omega arith, begun (now (a .want)) (a .from) (now (a .run)))
+loop-holds c = let a = c .before .before .before .args in (omega arith, c .before .before .before .pre .0, omega arith, begun (now (a .want)) (a .from) (now (a .run)))
 
 returns : tie.Need-returns Inv-loop μ-loop
 returns c =
     let l = c .before .before .loop in
-    let a = c .before .before .before .before .before .args in
+    let a = c .before .before .before .before .before .before .args in
     matched-whole (now (a .want)) (a .from) (l .i) (l .k) (now (a .run)) (l .inv .3) (c .if1 .taken)
 
 shared-slice-read-followed : tie.Need-shared-slice-read-followed Inv-loop μ-loop
@@ -34,8 +34,8 @@ shared-slice-read-followed c = search needs
 followed-requires : tie.Need-followed-requires Inv-loop μ-loop
 followed-requires c κs =
     let l = c .before .before .before .loop in
-    let at-entry = c .before .before .before .before .before .before in
-    (omega arith, omega (arith, at-entry .pre .1), record { at = λ j h. at-entry .pre .2 .at j (omega arith) (omega arith) })
+    let at-entry = c .before .before .before .before .before .before .before in
+    (omega arith, omega (arith, at-entry .pre .1), record { at = λ j some h. at-entry .pre .2 .at j some (omega arith) (omega arith) })
 
 add-i : tie.Need-add-i Inv-loop μ-loop
 add-i c = search needs
@@ -46,7 +46,7 @@ loop-less c = search needs
 loop-again : tie.Need-loop-again Inv-loop μ-loop
 loop-again c =
     let at-loop = c .before .before .before .before in
-    let a = at-loop .before .before .before .args in
+    let a = at-loop .before .before .before .before .args in
     let l = at-loop .loop in
     let part : l .k < length (now (a .want)) = omega arith in
     let few = advance-le _ (l .k) _ part (c .followed .ensures) in (
@@ -59,7 +59,7 @@ loop-again c =
 returns-2 : tie.Need-returns-2 Inv-loop μ-loop
 returns-2 c =
     let l = c .before .loop in
-    let a = c .before .before .before .before .args in
+    let a = c .before .before .before .before .before .args in
     matched-end (now (a .want)) (a .from) (l .i) (l .k) (now (a .run)) (l .inv .3) (drop-of-length-le _ (c .loop-test .left))
 
 pub through-links-spec : {M : Type 1} → statement M
