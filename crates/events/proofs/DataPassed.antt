@@ -2,11 +2,11 @@
 use mathlib.Core.Path.{_≡_, refl, sym, ap, _∙_}
 use mathlib.Core.Bool.{Bool, true, false, cond}
 use mathlib.Core.List.{List, [], _∷_}
-use Prim.Native.Nat.{ℕ, zero, suc, _+_, _-_, _≤_, _<_}
+use Prim.Native.Nat.{ℕ, suc, _+_, _-_, _≤_, _<_}
 use native.Mathlib.Decide.{ℕ-discrete}
 use native.Mathlib.Numerals.{add-one}
 use native.Mathlib.Omega.{arith}
-use lib.Dec.{ltb, eqb}
+use lib.Dec.{ltb}
 use lib.ListN.{length, getD, take, drop, length-drop}
 use lib.Seq.{drop-cons, take-all, take-length}
 use borrow.Author.Tests.{eq-eqb, ne-eqb}
@@ -16,7 +16,6 @@ use Rattle.process.specs.declared.Wait.the-variants.{Ready, Over, Bytes, Data}
 use Rattle.process.specs.Matching.{advance}
 use Rattle.process.specs.Waiting.{readyWait, awake, awaited, matchedTo, matchedWait, byteWait}
 use Rattle.events.specs.declared.matching.Matched.{Matched}
-use Rattle.events.specs.declared.passing.Passed.{Passed}
 use Rattle.events.specs.inside.Passing.{through, reach, atLeast1, byteOn, passedBy, endedAt, farther, matchedOn}
 use Rattle.events.proofs.Links.{advance-le}
 use Rattle.events.proofs.DataCases.{match-ends, match-stays}

@@ -2,14 +2,14 @@
 use mathlib.Core.Path.{_≡_, refl, sym, ap, _∙_}
 use mathlib.Core.Bool.{Bool, true, false, cond}
 use mathlib.Core.List.{List, [], _∷_, _++_, map}
-use Prim.Native.Nat.{ℕ, zero, suc, _-_, _≤_, _<_}
+use Prim.Native.Nat.{ℕ, suc, _-_, _≤_, _<_}
 use native.Mathlib.Omega.{arith}
-use lib.Dec.{ltb, leb}
+use lib.Dec.{leb}
 use lib.ListN.{length, take, replicate}
 use lib.Seq.{sets}
 use borrow.Author.Tests.{leb-true, le-leb, lt-leb, le-ltb}
 use Rattle.reader.specs.Bytes.{all}
-use Rattle.reader.proofs.Tests.{true-is-false, both-left, both-right, both}
+use Rattle.reader.proofs.Tests.{true-is-false, both-left, both-right}
 use Rattle.language.specs.declared.Heads.{Heads}
 use Rattle.language.specs.Limits.{omitLimit}
 use Rattle.process.specs.declared.Process.{Process}
@@ -19,7 +19,6 @@ use Rattle.process.specs.declared.RunRefusal.the-variants.{Busy, BadTable}
 use Rattle.process.specs.declared.Event.{Event}
 use Rattle.process.specs.declared.ByteEvent.{ByteEvent}
 use Rattle.process.specs.declared.Copies.{Copies}
-use Rattle.process.specs.declared.Received.{Received}
 use Rattle.process.specs.declared.Received.the-variants as received
 use Rattle.process.specs.declared.Gulped.the-variants.{Took}
 use Rattle.process.specs.Waiting.{ready, byteTaken, rangeRight}

@@ -1,14 +1,14 @@
 -- All processes of a state go through a run together: one after the other, each no farther than those before it. Assumes nothing.
 use mathlib.Core.Path.{_≡_, refl, sym, ap, _∙_}
 use mathlib.Core.Bool.{Bool, true, false}
-use mathlib.Core.List.{List, [], _∷_, _++_, map}
+use mathlib.Core.List.{List, [], _∷_, map}
 use Prim.Native.Nat.{ℕ, zero, suc, _+_, _≤_, _<_}
 use native.Mathlib.Numerals.{add-one}
 use native.Mathlib.Omega.{arith}
 use lib.Dec.{ltb}
-use lib.ListN.{length, getD, take, set, length-set, length-replicate, replicate}
+use lib.ListN.{length, getD, take, set, length-set, length-replicate}
 use lib.Seq.{take-suc, take-take, take-all, length-take-le}
-use borrow.Author.Tests.{ltb-true, ltb-false}
+use borrow.Author.Tests.{ltb-false}
 use Rattle.reader.proofs.Tests.{true-is-false}
 use Rattle.process.specs.declared.Wait.{Wait}
 use Rattle.process.specs.declared.Process.{Process}

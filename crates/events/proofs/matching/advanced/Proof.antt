@@ -3,7 +3,7 @@ use mathlib.Core.Path.{_≡_}
 use native.Mathlib.Omega.{arith}
 use lib.ListN.{length}
 use borrow.Author.Needs.{needs}
-use Rattle.events.proofs.Links.{advance-hit, advance-none}
+use Rattle.events.proofs.Links.{advance-hit, advance-none, linked-fewer}
 use Rattle.events.proofs.matching.advanced.Statement.{statement}
 use Rattle.events.proofs.matching.advanced.Tie as tie
 
@@ -34,7 +34,7 @@ followed-requires : tie.Need-followed-requires
 followed-requires c κs =
     let p = c .before .before .before .before .before .before .pre in
     let n : length (c .before .linked .result) ≡ 1024 = search needs in
-    (p .0, omega (arith, n, p .1), c .before .linked .ensures)
+    (omega (arith, p .0), omega (arith, n, p .1), linked-fewer (c .before .linked .ensures) (omega arith))
 
 returns-3 : tie.Need-returns-3
 returns-3 c = c .followed .ensures

@@ -1,11 +1,10 @@
 -- `events::matching::through_links` meets its contract. Assumes nothing.
 use borrow.Author.Needs.{needs}
-use mathlib.Core.Path.{_≡_, refl, sym, ap, _∙_}
-use Prim.Native.Nat.{ℕ, _+_, _-_, _≤_, _<_}
+use mathlib.Core.Path.{_≡_}
+use Prim.Native.Nat.{_+_, _-_, _≤_, _<_}
 use native.Mathlib.Omega.{arith}
 use denote.Ref.{now}
-use lib.ListN.{length, getD, drop, drop-of-length-le}
-use Rattle.process.specs.Matching.{advance}
+use lib.ListN.{length, drop, drop-of-length-le}
 use Rattle.events.specs.inside.Passing.{farther, matchedOn}
 use Rattle.events.proofs.Links.{advance-le}
 use Rattle.events.proofs.DataPassed.{begun, matched-on, matched-whole, matched-end}

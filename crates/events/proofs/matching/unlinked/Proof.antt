@@ -1,11 +1,11 @@
 -- `events::matching::unlinked` meets its contract. Assumes nothing.
 use borrow.Author.Needs.{needs}
-use mathlib.Core.Path.{_≡_, refl, sym, ap, _∙_}
+use mathlib.Core.Path.{_≡_, _∙_}
 use Prim.Native.Nat.{ℕ, _+_, _-_, _≤_, _<_}
 use mathlib.Core.Logic.{⊎-elim}
 use native.Mathlib.Omega.{arith}
 use denote.Ref.{now}
-use lib.ListN.{length, getD, drop, drop-of-length-le}
+use lib.ListN.{length, getD, drop}
 use Rattle.process.specs.Matching.{advance}
 use Rattle.events.specs.inside.Passing.{farther, matchedOn}
 use Rattle.events.proofs.Links.{advance-hit, advance-none}

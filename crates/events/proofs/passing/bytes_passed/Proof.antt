@@ -1,5 +1,5 @@
 -- `events::passing::bytes_passed` meets its contract. Assumes nothing.
-use mathlib.Core.Path.{_≡_, sym, ap, _∙_}
+use mathlib.Core.Path.{_≡_, ap, _∙_}
 use native.Mathlib.Omega.{arith}
 use denote.Ref.{now}
 use Rattle.events.specs.inside.Passing.{atLeast1}

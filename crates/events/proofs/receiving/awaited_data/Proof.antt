@@ -2,7 +2,6 @@
 use lib.ListN.{length}
 use denote.Ref.{now}
 use mathlib.Core.Path.{_≡_, ap, _∙_}
-use Prim.Native.Nat.{_-_}
 use Rattle.events.proofs.DataCases.{part-is, awaited-length}
 use borrow.Author.Needs.{needs}
 use Rattle.events.proofs.receiving.awaited_data.Statement.{statement}

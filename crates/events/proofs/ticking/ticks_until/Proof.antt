@@ -5,7 +5,6 @@ use native.Mathlib.Omega.{arith}
 use lib.ListN.{length-replicate}
 use borrow.Author.Needs.{needs}
 use Rattle.process.specs.Waiting.{readyWait}
-use Rattle.process.specs.declared.Wait.{Wait}
 use Rattle.process.proofs.Others.{ticks-past}
 use Rattle.events.specs.inside.Passing.{reach, tickOn, ticksOf}
 use Rattle.events.proofs.Reach.{stays-reach}
