@@ -146,7 +146,8 @@ fn places_for(w: Wait, left: usize) -> usize
 // One process after the other, each no farther than those before it. The links of each stand behind those of the one before it.
 fn pass_each(ps: [Process; PROCESS_PLACES], pool: &Pool, run: &[u8], links: &mut [u16]) -> Pass
     requires { ⌜ (all rangeRight ps ≡ true) × (any ready ps ≡ false) × KeptFrom (now pool) (now links) 0 ps ⌝ }
-    ensures { λ r. ⌜ Passes (now (pool .entry)) (now (run .entry)) ps r × KeptFrom (now (pool .entry)) (now (links .exit)) 0 ps ⌝ }
+    ensures { λ r. ⌜ Passes (now (pool .entry)) (now (run .entry)) ps r
+        × KeptFrom (now (pool .entry)) (now (links .exit)) 0 ps ⌝ }
 {
     let mut next = ps;
     let mut n = run.len();
