@@ -2,7 +2,7 @@
 ghost use mathlib.Core.Path.{_≡_};
 ghost use mathlib.Core.Bool.{true, false};
 ghost use mathlib.Core.List.{map};
-ghost use Prim.Native.Nat.{_≤_, _<_};
+ghost use Prim.Native.Nat.{_≤_};
 ghost use lib.ListN.{length, take};
 ghost use Rattle.process.specs.declared.Wait.the-variants.{Bytes, Data};
 ghost use Rattle.process.specs.Waiting.{readyWait, ready, awaited, progressRight, waitRight, rangeRight};
@@ -19,7 +19,6 @@ use language::Pool;
 use process::Process;
 use process::Progress;
 use process::Wait;
-use process::waits::awaken;
 use reader::widths::wide;
 
 // A wait after some bytes, and how many they were.
