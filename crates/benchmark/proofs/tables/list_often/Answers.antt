@@ -1,0 +1,6 @@
+-- `benchmark::tables::list_often` ends: what is left falls. Assumes nothing.
+use Rattle.std.proofs.Common.{◌≡◌, length, refl, arith, rules}
+use Rattle.benchmark.proofs.tables.list_often.Goals as goal
+
+pub loop-left-init : goal.loop-left-init
+loop-left-init c = refl

@@ -1,0 +1,15 @@
+-- `cells::decoder::send` meets its contract: a span in its range lies within the pool. Assumes nothing.
+use Rattle.language.specs.declared.Cell.TheVariants.{Send}
+use Rattle.cells.proofs.Coding.{within_pool}
+use mathlib.Core.Path.{sym, ap, ◌∙◌}
+use borrow.Author.Rules.{rules}
+use Rattle.cells.proofs.decoder.send.Goals as goal
+
+pub span_of-requires : goal.span_of-requires
+span_of-requires c = within_pool 0 126 c.args.argument (sym c.span_right.ensures ∙ c.if-span_right.true)
+
+pub returns-then-span_right : goal.returns-then-span_right
+returns-then-span_right c = rw (sym c.span_right.ensures ∙ c.if-span_right.true) (ap Send c.Span-of.ensures)
+
+pub returns-else-span_right : goal.returns-else-span_right
+returns-else-span_right c = rw (sym c.span_right.ensures ∙ c.if-span_right.false)

@@ -1,0 +1,7 @@
+-- `is_comment` meets its contract: comments, and all other lines. Assumes nothing.
+use borrow.Author.Rules.{rules}
+use Rattle.compiler.proofs.Asking.{other_counts}
+use Rattle.compiler.proofs.drafting.is_comment.Goals as goal
+
+pub returns-in_default : goal.returns-in_default
+returns-in_default c = other_counts c.args.line c.in_default.keys2

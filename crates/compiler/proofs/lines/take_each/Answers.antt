@@ -1,0 +1,129 @@
+-- `take_each` meets its contract: each turn of its two loops is a law on their states, `Folding` and `Scanning`. Assumes nothing.
+use Prim.Native.Nat.{ℕ, ◌-◌, ◌<◌}
+use mathlib.Core.Path.{◌≡◌, refl, sym, ◌∙◌}
+use mathlib.Core.Bool.{true}
+use native.Mathlib.Omega.{arith}
+use borrow.Author.Rules.{rules}
+use lib.ListN.{length, get_or}
+use Rattle.compiler.specs.declared.drafting.Step.TheVariants.{Going}
+use Rattle.compiler.specs.Inside.Drafting.{work_of}
+use Rattle.compiler.specs.Inside.Text.{clear_from}
+use Rattle.compiler.proofs.Folding.{Folding, Scanning, Lined, first, ready, opened, passed, at_end_lem, overlong, in_line_lem, goes_on_lem, short, refuses, all_taken, at_fault}
+use Rattle.compiler.proofs.lines.take_each.Goals as goal
+
+-- sixteen bytes more hold no LF
+clears : (c : goal.In-loop-lent)
+    → let at-scan = c in
+    let at_entry_lem = at-scan.before.before.before.before.before in
+    clear_from at_entry_lem.args.text.now at-scan.loop.clear ≡ true
+clears c = sym c.no_feed.ensures ∙ c.loop-lent-test.true
+
+-- where the line ends, at an LF or at the end of the text
+lined : (c : goal.After-next_feed-end)
+    → let at-lines = c in
+    let at_entry_lem = at-lines.before.before.before in
+    Lined
+    at_entry_lem.args.text.now
+    (work_of at-lines.lines.work at-lines.lines.loops at-lines.lines.ends at-lines.lines.settings)
+    at-lines.lines.row
+    at-lines.lines.start
+    at-lines.lines.cells
+    at-lines.lines.pool
+    c.next_feed-end.result
+lined c = at_end_lem c.loop-lent.invariant c.next_feed-end.ensures
+
+-- a text is of bytes
+bytes : (c : goal.After-next_feed-end) (i : ℕ)
+    → let at_entry_lem = c in
+    get_or at_entry_lem.args.text.now i 0 < 256
+bytes c i =
+    omega (arith, c.shared_slice_known-1.given i)
+
+pub lines-init : goal.lines-init
+lines-init c = (rw c.no_lines-work.ensures (first _ c.requires.0 c.requires.1), refl)
+
+pub loop-lent-init : goal.loop-lent-init
+loop-lent-init c = opened c.lines.invariant.0 (omega arith)
+
+pub no_feed-requires : goal.no_feed-requires
+no_feed-requires c = c.loop-lent.invariant.upto
+
+pub overflow_sub-clear : goal.overflow_sub-clear
+overflow_sub-clear c = omega (arith, c.loop-lent.invariant.begun)
+
+pub overflow_add-clear : goal.overflow_add-clear
+overflow_add-clear c =
+    let q = passed c.loop-lent.invariant (clears c) in
+    omega (arith, q.upto)
+
+pub loop-lent-smaller : goal.loop-lent-smaller
+loop-lent-smaller c =
+    let q = passed c.loop-lent.invariant (clears c) in
+    omega (arith, q.upto)
+
+pub loop-lent-preserved : goal.loop-lent-preserved
+loop-lent-preserved c = passed c.loop-lent.invariant (clears c)
+
+pub next_feed-end-requires : goal.next_feed-end-requires
+next_feed-end-requires c = c.loop-lent.invariant.upto
+
+pub without_cr-behind-requires : goal.without_cr-behind-requires
+without_cr-behind-requires c =
+    let g = lined c in
+    (g.begun, g.upto)
+
+pub slice_bounds-line-end : goal.slice_bounds-line-end
+slice_bounds-line-end c =
+    let g = lined c in
+    omega arith
+
+pub take_line-taken-requires : goal.take_line-taken-requires
+take_line-taken-requires c = (
+  ready c.lines.work c.lines.loops c.lines.ends c.lines.settings (lined c).folding,
+  in_line_lem _ (lined c) (bytes c) c.without_cr-behind.ensures.2,
+)
+
+pub overflow_add-row : goal.overflow_add-row
+overflow_add-row c =
+    let g = lined c in
+    omega (arith, g.folding.rows, g.begun, g.upto, c.requires.0)
+
+pub overflow_add-start : goal.overflow_add-start
+overflow_add-start c =
+    let g = lined c in
+    omega (arith, g.upto)
+
+pub lines-smaller : goal.lines-smaller
+lines-smaller c =
+    let g = lined c in
+    omega (arith, c.lines-test.true, g.begun)
+
+pub lines-preserved : goal.lines-preserved
+lines-preserved c =
+    let e = c.in_default.is in (
+      goes_on_lem _ (lined c) (bytes c)
+          c.without_cr-behind.ensures.2 _ _ _ c.take_line-taken.ensures e,
+      e,
+    )
+
+-- a line whose rest is wrong is read for its column
+pub column_in-column-requires : goal.column_in-column-requires
+column_in-column-requires c =
+    short _ (lined c) (bytes c) c.without_cr-behind.ensures.2 _ _ _
+    c.take_line-taken.ensures c.in-Stop.is
+
+-- after the last line
+pub returns-after-lines : goal.returns-after-lines
+returns-after-lines c = all_taken _ _ _ _ _ _ c.lines.invariant.0 c.lines-test.false c.lines.invariant.1
+
+-- at a line that is too long
+pub returns-then-clear-start-gt-LINE : goal.returns-then-clear-start-gt-LINE
+returns-then-clear-start-gt-LINE c = at_fault _ _ _ _ _ _ _ _ _ refl refl (overlong c.loop-lent.invariant (clears c) c.if-clear-start-gt-LINE.true)
+
+-- at a line's fault
+pub returns-in-Stop : goal.returns-in-Stop
+returns-in-Stop c =
+    let e = c.in-Stop.is in
+    at_fault _ _ _ _ _ _ _ _ _ refl c.column_in-column.ensures
+    (refuses _ (lined c) (bytes c) c.without_cr-behind.ensures.2 _ _ _
+    c.take_line-taken.ensures e)

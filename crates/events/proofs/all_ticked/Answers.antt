@@ -1,0 +1,22 @@
+-- `events::all_ticked` meets its contract: the first i processes are done, the others are as they were. Assumes nothing.
+use mathlib.Core.Path.{◌≡◌, ◌∙◌}
+use Prim.Native.Nat.{◌≤◌, ◌-◌}
+use native.Mathlib.Omega.{arith}
+use lib.ListN.{length}
+use borrow.Author.Rules.{rules}
+use Rattle.process.specs.Waiting.{ticked}
+use Rattle.process.proofs.Loops.{done, done_more, done_all}
+use Rattle.events.proofs.all_ticked.Goals as goal
+
+pub loop-i-preserved : goal.loop-i-preserved
+loop-i-preserved c =
+    let a = c.args.ps in
+    let n : length a ≡ 8 = search rules in
+    let i = c.loop-i.i in
+    (omega arith, done_more ticked a i _ (omega arith) c.loop-i.invariant.1 c.tick.ensures)
+
+pub returns : goal.returns
+returns c =
+    let a = c.args.ps in
+    let n : length a ≡ 8 = search rules in
+    c.loop-i.invariant.1 ∙ done_all ticked a c.loop-i.i (omega arith)

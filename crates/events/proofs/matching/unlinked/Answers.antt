@@ -1,0 +1,44 @@
+-- `events::matching::unlinked` meets its contract. Assumes nothing.
+use borrow.Author.Rules.{rules}
+use mathlib.Core.Path.{◌≡◌, ◌∙◌}
+use Prim.Native.Nat.{ℕ, ◌+◌, ◌-◌, ◌≤◌, ◌<◌}
+use mathlib.Core.Logic.{⊎_elim}
+use native.Mathlib.Omega.{arith}
+use lib.ListN.{length, get_or, drop}
+use Rattle.process.specs.Matching.{advance}
+use Rattle.events.specs.Inside.Passing.{farther, matched_on}
+use Rattle.events.proofs.Links.{advance_hit, advance_none}
+use Rattle.events.proofs.DataPassed.{begun, matched_on_lem}
+use Rattle.events.proofs.matching.unlinked.Goals as goal
+
+pub loop-i-init : goal.loop-i-init
+loop-i-init c = let a = c.args in (omega arith, c.requires, begun a.want.now a.from a.run.now)
+
+pub returns-then-k-want : goal.returns-then-k-want
+returns-then-k-want c =
+    let l = c.loop-i in
+    (l.invariant.2, l.invariant.1, l.invariant.0)
+
+pub returns-then-k-ne0 : goal.returns-then-k-ne0
+returns-then-k-ne0 c =
+    let l = c.loop-i in
+    (l.invariant.2, l.invariant.1, l.invariant.0)
+
+pub loop-i-preserved : goal.loop-i-preserved
+loop-i-preserved c =
+    let a = c.args in
+    let l = c.loop-i in
+    let inside : l.i < length a.run.now = omega arith in
+    let part : l.k < length a.want.now = omega arith in
+    let on : (j : ℕ) → j ≡ advance a.want.now l.k (get_or a.run.now l.i 0) → matched_on a.want.now a.from a.run.now ≡ farther (l.i + 1) (matched_on a.want.now j (drop (l.i + 1) a.run.now)) =
+    λ j e. matched_on_lem a.want.now a.from l.i l.k a.run.now l.invariant.2 part inside e
+    in
+    ⊎_elim
+    (λ w. (omega arith, omega (arith, w.1), on _ (w.1 ∙ advance_hit _ l.k _ part w.0.taken)))
+    (λ w. (omega arith, omega (arith, w.2), on _ (w.2 ∙ w.1.left ∙ advance_none _ l.k _ part w.0.left w.1.left)))
+    c.if-want-k.branch
+
+pub returns : goal.returns
+returns c =
+    let l = c.loop-i in
+    (l.invariant.2, l.invariant.1, l.invariant.0)

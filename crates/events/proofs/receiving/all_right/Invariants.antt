@@ -1,0 +1,16 @@
+-- `events::receiving::all_right` meets its contract: the processes from i on decide. Assumes nothing.
+use mathlib.Core.Path.{◌≡◌, sym, ◌∙◌}
+use Prim.Native.Nat.{◌≤◌, ◌-◌}
+use native.Mathlib.Omega.{arith}
+use lib.ListN.{length, drop}
+use borrow.Author.Rules.{rules}
+use Rattle.process.specs.Waiting.{range_right}
+use Rattle.reader.proofs.Each.{each_not, each_past, each_end}
+use Rattle.reader.specs.Bytes.{all}
+use Rattle.events.proofs.receiving.all_right.Given as goal
+
+abbrev pub invariant-loop-i : goal.invariant-loop-i
+invariant-loop-i l = (l.i ≤ 8) × (all range_right l.ps ≡ all range_right (drop l.i l.ps))
+
+abbrev pub decreases-loop-i : goal.decreases-loop-i
+decreases-loop-i l = 8 - l.i

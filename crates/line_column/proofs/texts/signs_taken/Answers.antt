@@ -1,0 +1,26 @@
+-- `signs_taken` meets its contract: each turn of the loop is a law on its state, `Signing`. Assumes nothing.
+use Prim.Native.Nat.{◌-◌}
+use mathlib.Core.Path.{refl}
+use mathlib.Core.Logic.{⊎_elim}
+use native.Mathlib.Omega.{arith}
+use lib.ListN.{length}
+use borrow.Author.Tests.{not-true, not-false}
+use Rattle.line_column.proofs.Signing.{Signing, text_ended, no_sign, sign, plain, renamed}
+use Rattle.line_column.proofs.texts.signs_taken.Goals as goal
+
+pub loop-i-init : goal.loop-i-init
+loop-i-init c = record { whole = refl }
+
+pub returns-then-not-is_sign : goal.returns-then-not-is_sign
+returns-then-not-is_sign c = no_sign c.loop-i.invariant (omega arith) c.if-marked.true c.is_sign.ensures (not-true _ c.if-not-is_sign.true)
+
+pub loop-i-preserved : goal.loop-i-preserved
+loop-i-preserved c =
+    let w = c.loop-i.invariant in
+    ⊎_elim
+    (λ w₁. renamed w₁.4 (sign w (omega arith) w₁.0.taken w₁.2.ensures (not-false _ w₁.3.left)))
+    (λ w₂. renamed w₂.2 (plain w (omega arith) w₂.0.left))
+    c.if-marked.branch
+
+pub returns : goal.returns
+returns c = text_ended c.loop-i.invariant (omega arith)

@@ -1,0 +1,8 @@
+-- `put_text` meets its contract: there is room. Assumes nothing.
+use mathlib.Core.Path.{refl}
+use Rattle.line_meaning.proofs.Filling.{text_put}
+use borrow.Author.Rules.{rules}
+use Rattle.line_meaning.proofs.texts.put_text.Goals as goal
+
+pub returns : goal.returns
+returns c = (refl, text_put _ _ c.put_bytes-arg-1.given.0.1 c.requires c.put_bytes.ensures.1)

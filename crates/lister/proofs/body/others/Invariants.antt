@@ -1,0 +1,13 @@
+-- `lister::body::others` meets its contract: the ends from i on are left. Assumes nothing.
+use Prim.Native.Nat.{◌-◌}
+use lib.ListN.{length}
+use Rattle.lister.proofs.Printing.{Printing, begun, printed, left_is, next_room, went_on}
+use Rattle.lister.proofs.Lining.{others, others_on, others_enough, others_past}
+use borrow.Author.Rules.{rules}
+use Rattle.lister.proofs.body.others.Given as goal
+
+abbrev pub invariant-loop-i : goal.invariant-loop-i
+invariant-loop-i l = Printing (others l.pool l.cells l.ends l.processes l.first 1) l.initial.out l.at l.out l.place (others l.pool l.cells l.ends l.processes l.from l.i)
+
+abbrev pub decreases-loop-i : goal.decreases-loop-i
+decreases-loop-i l = length l.ends - l.i

@@ -1,0 +1,7 @@
+-- `lister::statements::loops` meets its contract. Assumes nothing.
+use Rattle.lister.proofs.Printing.{printed_more}
+use borrow.Author.Rules.{rules}
+use Rattle.lister.proofs.statements.loops.Goals as goal
+
+pub returns : goal.returns
+returns c = printed_more c.put-next.ensures c.count_text.ensures

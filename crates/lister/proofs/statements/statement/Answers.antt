@@ -1,0 +1,109 @@
+-- `lister::statements::statement` meets its contract, cell by cell. Assumes nothing.
+use Prim.Native.Nat.{ℕ}
+use mathlib.Core.Path.{◌≡◌, refl}
+use mathlib.Core.List.{List}
+use Rattle.language.specs.declared.Cell.{Cell}
+use Rattle.language.specs.Listing.{line_for}
+use Rattle.language.specs.Table.{statement_of}
+use Rattle.accepted.proofs.CellsFit.{sent_inside, waited_inside, logged_inside}
+use Rattle.lister.specs.Inside.Printed.{FitsListing, Printed, word_line}
+use Rattle.lister.proofs.Printing.{printed_is, room_is}
+use Rattle.lister.proofs.Stating.{word_room, word_printed, signal_few, name_alone}
+use borrow.Author.Rules.{rules}
+use Rattle.lister.proofs.statements.statement.Goals as goal
+
+-- the line of the cell that the word says has room, and is the word's
+module _ (c : goal.After-decode-c) {c : Cell} (is : c.decode-c.result ≡ c) where
+  line_room : FitsListing c.args.at (line_for (statement_of c.args.pool.now c))
+  line_room = word_room _ _ c.decode-c.ensures is c.requires
+
+  line-printed : {r : ℕ} {e : List ℕ}
+      → Printed (line_for (statement_of c.args.pool.now c)) c.args.out.now
+      c.args.at r e
+      → Printed (word_line c.args.pool.now c.args.w)
+      c.args.out.now c.args.at r e
+  line-printed p = word_printed _ _ c.decode-c.ensures is p
+
+pub pool_text-requires : goal.pool_text-requires
+unfolding line_for statement_of
+pool_text-requires c = (
+  sent_inside _ c.decode-c.ensures c.in-Send.is,
+  search rules,
+  line_room c c.in-Send.is,
+)
+
+pub loops-requires : goal.loops-requires
+unfolding line_for statement_of
+loops-requires c = line_room c c.in-Loop.is
+
+pub wait_time-requires : goal.wait_time-requires
+unfolding line_for statement_of
+wait_time-requires c = line_room c c.in-WaitTime.is
+
+pub wait_data-requires : goal.wait_data-requires
+unfolding line_for statement_of
+wait_data-requires c = (waited_inside _ c.decode-c.ensures c.in-WaitData.is, line_room c c.in-WaitData.is)
+
+pub wait_byte-requires : goal.wait_byte-requires
+unfolding line_for statement_of
+wait_byte-requires c = line_room c c.in-WaitByte.is
+
+pub wait_clock-requires : goal.wait_clock-requires
+unfolding line_for statement_of
+wait_clock-requires c = line_room c c.in-WaitClock.is
+
+pub wait_signal-requires : goal.wait_signal-requires
+unfolding line_for statement_of
+wait_signal-requires c = (signal_few _ c.decode-c.ensures c.in-WaitSignal.is, line_room c c.in-WaitSignal.is)
+
+pub rts-requires : goal.rts-requires
+unfolding line_for statement_of
+rts-requires c = line_room c c.in-Rts.is
+
+pub log-requires : goal.log-requires
+unfolding line_for statement_of
+log-requires c = (logged_inside _ c.decode-c.ensures c.in-Log.is, line_room c c.in-Log.is)
+
+pub bare_name-requires : goal.bare_name-requires
+bare_name-requires c = room_is (name_alone _ _ c.in_default.keys10) (line_room c refl)
+
+pub returns-in-Send : goal.returns-in-Send
+unfolding line_for statement_of
+returns-in-Send c = line-printed c c.in-Send.is c.pool_text.ensures
+
+pub returns-in-Loop : goal.returns-in-Loop
+unfolding line_for statement_of
+returns-in-Loop c = line-printed c c.in-Loop.is c.loops.ensures
+
+pub returns-in-WaitTime : goal.returns-in-WaitTime
+unfolding line_for statement_of
+returns-in-WaitTime c = line-printed c c.in-WaitTime.is c.wait_time.ensures
+
+pub returns-in-WaitData : goal.returns-in-WaitData
+unfolding line_for statement_of
+returns-in-WaitData c = line-printed c c.in-WaitData.is c.wait_data.ensures
+
+pub returns-in-WaitByte : goal.returns-in-WaitByte
+unfolding line_for statement_of
+returns-in-WaitByte c = line-printed c c.in-WaitByte.is c.wait_byte.ensures
+
+pub returns-in-WaitClock : goal.returns-in-WaitClock
+unfolding line_for statement_of
+returns-in-WaitClock c = line-printed c c.in-WaitClock.is c.wait_clock.ensures
+
+pub returns-in-WaitSignal : goal.returns-in-WaitSignal
+unfolding line_for statement_of
+returns-in-WaitSignal c = line-printed c c.in-WaitSignal.is c.wait_signal.ensures
+
+pub returns-in-Rts : goal.returns-in-Rts
+unfolding line_for statement_of
+returns-in-Rts c = line-printed c c.in-Rts.is c.rts.ensures
+
+pub returns-in-Log : goal.returns-in-Log
+unfolding line_for statement_of
+returns-in-Log c = line-printed c c.in-Log.is c.log.ensures
+
+pub returns-in_default : goal.returns-in_default
+returns-in_default c =
+    line-printed c refl
+    (printed_is (name_alone _ _ c.in_default.keys10) c.bare_name.ensures)

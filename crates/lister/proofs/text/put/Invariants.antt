@@ -1,0 +1,13 @@
+-- `lister::text::put` meets its contract: each turn of the loop writes a byte. Assumes nothing.
+use Prim.Native.Nat.{◌-◌}
+use native.Mathlib.Omega.{arith}
+use lib.ListN.{length, drop, drop_of_length-le}
+use borrow.Author.Rules.{rules}
+use Rattle.lister.proofs.Printing.{Printing, begun, printed, byte_room, byte_stored}
+use Rattle.lister.proofs.text.put.Given as goal
+
+abbrev pub invariant-loop-i : goal.invariant-loop-i
+invariant-loop-i l = Printing l.bytes l.initial.out l.at l.out l.place (drop l.i l.bytes)
+
+abbrev pub decreases-loop-i : goal.decreases-loop-i
+decreases-loop-i l = length l.bytes - l.i

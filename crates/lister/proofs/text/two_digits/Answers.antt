@@ -1,0 +1,23 @@
+-- `lister::text::two_digits` meets its contract. Assumes nothing.
+use Rattle.lister.proofs.Printing.{printed_is, room_is}
+use Rattle.lister.proofs.Scratch.{two_few, never, enough, first_bytes_lem}
+use borrow.Author.Rules.{rules}
+use Rattle.lister.proofs.text.two_digits.Goals as goal
+
+pub put_first-requires : goal.put_first-requires
+put_first-requires c = (
+  enough _ _ c.put_two_digits-done.ensures.0 (two_few c.args.n)
+      c.in-Next.is c.put_two_digits-done.ensures.1,
+  room_is (first_bytes_lem _ _ c.put_two_digits-done.ensures.0 (two_few c.args.n)
+      c.in-Next.is c.put_two_digits-done.ensures.1) c.requires,
+)
+
+pub returns-in-Next : goal.returns-in-Next
+returns-in-Next c =
+    printed_is (first_bytes_lem _ _ c.put_two_digits-done.ensures.0 (two_few c.args.n)
+    c.in-Next.is c.put_two_digits-done.ensures.1) c.put_first.ensures
+
+pub returns-in-NoRoom : goal.returns-in-NoRoom
+returns-in-NoRoom c =
+    absurd (never _ _ c.put_two_digits-done.ensures.0 (two_few c.args.n)
+    c.in-NoRoom.is)

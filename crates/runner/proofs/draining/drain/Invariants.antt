@@ -1,0 +1,18 @@
+-- `runner::draining::drain` meets its contract: none before i is ready, nothing is altered before the turn, and each way out is a law of `Drains`.
+use mathlib.Core.Path.{◌≡◌, refl, sym, ap, ◌∙◌}
+use Prim.Native.Nat.{◌+◌, ◌-◌, ◌<◌}
+use native.Mathlib.Omega.{arith}
+use lib.ListN.{length, drop}
+use borrow.Author.Rules.{rules}
+use Rattle.process.specs.declared.State.{State}
+use Rattle.runner.specs.Draining.{lowest, nobody}
+use Rattle.runner.proofs.Lowest.{lowest_here, lowest_past, get_d_any, unmapped}
+use Rattle.runner.proofs.Drains.{idle_drains, turn_drains, kept}
+use Rattle.runner.proofs.draining.drain.Given as goal
+
+abbrev pub invariant-loop-i : goal.invariant-loop-i
+invariant-loop-i l =
+    (l.t ≡ l.s) × (l.counts ≡ l.initial.counts) × (l.out ≡ l.initial.out) × (length l.t.processes ≡ 8) × (lowest l.t.processes ≡ l.i + lowest (drop l.i l.t.processes))
+
+abbrev pub decreases-loop-i : goal.decreases-loop-i
+decreases-loop-i l = 8 - l.i
