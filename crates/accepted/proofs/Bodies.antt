@@ -15,7 +15,7 @@ use Rattle.language.specs.Right.{right, all_right}
 use Rattle.language.specs.Cell.{decoded}
 use Rattle.language.specs.Table.{words_from, pool_of, ends_from, items_of, body_from}
 use Rattle.accepted.specs.Inside.Cells.{cell_fits, bytes_of_cell, words_fit, words_end}
-use Rattle.accepted.specs.Inside.Heads.{rising, last_end_lem}
+use Rattle.accepted.specs.Inside.Heads.{rising, last_end}
 use Rattle.accepted.proofs.Walk.{Walked, walked}
 
 -- ---- lists joined
@@ -79,8 +79,8 @@ ends_next pool (w ∷ ws) js i = let e : i + 1 + length ws ≡ i + suc (length w
 
 -- ---- parts of the words
 
-pub last_rises : (es : List ℕ) (i : ℕ) → rising i es ≡ true → i ≤ last_end_lem i es
-unfolding rising last_end_lem
+pub last_rises : (es : List ℕ) (i : ℕ) → rising i es ≡ true → i ≤ last_end i es
+unfolding rising last_end
 last_rises [] i h = omega arith
 last_rises (e ∷ es) i h =
     let r = last_rises es e (both_right (leb e lines_limit) _ (both_right (leb i e) _ h)) in
@@ -99,12 +99,12 @@ slice_long ws i e h k = rw (length-slice i e ws k) (omega arith)
 -- ---- the body
 
 pub record Body (pool ws : List ℕ) (i at : ℕ) (es : List ℕ) : Type 0 where
-  pub walk : Walked pool at (slice i (last_end_lem i es) ws) (body_from pool ws i es) (words_end at (slice i (last_end_lem i es) ws))
+  pub walk : Walked pool at (slice i (last_end i es) ws) (body_from pool ws i es) (words_end at (slice i (last_end i es) ws))
   pub ends : ends_from i (body_from pool ws i es) ≡ es
 
 pub body : (pool ws : List ℕ) → length pool ≡ data_limit → length ws ≡ lines_limit → (e : ℕ) (es : List ℕ) (i at : ℕ) → rising i (e ∷ es) ≡ true
-    → words_fit pool at (slice i (last_end_lem i (e ∷ es)) ws) ≡ true → Body pool ws i at (e ∷ es)
-unfolding rising last_end_lem body_from
+    → words_fit pool at (slice i (last_end i (e ∷ es)) ws) ≡ true → Body pool ws i at (e ∷ es)
+unfolding rising last_end body_from
 body pool ws n m e [] i at r f =
     let low : i ≤ e = leb-true i e (both_left (leb i e) _ r) in
     let high : e ≤ length ws = rw m (leb-true e lines_limit (both_left (leb e lines_limit) _ (both_right (leb i e) _ r))) in
@@ -117,7 +117,7 @@ body pool ws n m e (f ∷ es) i at r h =
     let r₁ = both_right (leb i e) _ r in
     let high : e ≤ length ws = rw m (leb-true e lines_limit (both_left (leb e lines_limit) _ r₁)) in
     let r₂ = both_right (leb e lines_limit) _ r₁ in
-    let last : ℕ = last_end_lem e (f ∷ es) in
+    let last : ℕ = last_end e (f ∷ es) in
     let parts = slice_append ws i e last low (last_rises (f ∷ es) e r₂) high in
     let fits = rw (parts, fit_append pool (slice i e ws) (slice e last ws) at) at h in
     let first = walked pool n (slice i e ws) at (both_left (words_fit pool at (slice i e ws)) _ fits) in

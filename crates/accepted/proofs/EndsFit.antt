@@ -13,25 +13,25 @@ use Rattle.language.specs.declared.Heads.{Heads}
 use Rattle.language.specs.Limits.{lines_limit, process_limit}
 use Rattle.accepted.specs.declared.Fit.{Fit}
 use Rattle.accepted.specs.declared.Fit.TheVariants.{To, Not}
-use Rattle.accepted.specs.Inside.Heads.{all_zero, rising, last_end_lem, ends_of, in_use, ends_right}
+use Rattle.accepted.specs.Inside.Heads.{all_zero, rising, last_end, ends_of, in_use, ends_right}
 use Rattle.accepted.specs.Inside.EndsFit.{reaches, ends_reach}
 
 module _ (es : List ℕ) (last i : ℕ) where
   ends_done : length es ≤ i → ends_reach last (drop i es) ≡ To last
-  unfolding ends_reach rising last_end_lem
+  unfolding ends_reach rising last_end
   ends_done h = rw (drop_of_length-le es h)
 
   module _ (h : i < length es) where
     ends_fall : get_or es i 0 < last → ends_reach last (drop i es) ≡ Not
-    unfolding ends_reach rising last_end_lem
+    unfolding ends_reach rising last_end
     ends_fall l = rw (drop-cons es i 0 h, lt-leb last (get_or es i 0) l)
 
     ends_leave : last ≤ get_or es i 0 → lines_limit < get_or es i 0 → ends_reach last (drop i es) ≡ Not
-    unfolding ends_reach rising last_end_lem
+    unfolding ends_reach rising last_end
     ends_leave l m = rw (drop-cons es i 0 h, le-leb last (get_or es i 0) l, lt-leb (get_or es i 0) lines_limit m)
 
     ends_on : last ≤ get_or es i 0 → get_or es i 0 ≤ lines_limit → ends_reach last (drop i es) ≡ ends_reach (get_or es i 0) (drop (i + 1) es)
-    unfolding ends_reach rising last_end_lem
+    unfolding ends_reach rising last_end
     ends_on l m = rw (drop-cons es i 0 h, le-leb last (get_or es i 0) l, le-leb (get_or es i 0) lines_limit m, add-one i)
 
 -- the pass over the first n ends, at i of them: the ends from i on decide

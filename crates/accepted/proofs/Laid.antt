@@ -19,7 +19,7 @@ use Rattle.language.proofs.Cells.{decode_code}
 use Rattle.language.proofs.Tables.{pool_length, settings_back}
 use Rattle.language.proofs.TableCells.{cell_right_lem}
 use Rattle.language.proofs.Good.{Good}
-use Rattle.accepted.specs.Inside.Heads.{all_zero, rising, last_end_lem, ends_right, settings_fit}
+use Rattle.accepted.specs.Inside.Heads.{all_zero, rising, last_end, ends_right, settings_fit}
 use Rattle.accepted.specs.Inside.Cells.{cells_fit, follows, cell_fits, bytes_of_cell, words_fit, words_end}
 use Rattle.accepted.specs.Inside.Lines.{cells_right}
 use Rattle.accepted.proofs.Counting.{items_count, ends_count, lines_count}
@@ -53,13 +53,13 @@ ends_rising (does s ∷ is) i at h = rising_less (ends_from (i + 1) is) i (ends_
 ends_rising (next ∷ is) i at h =
     rw (le-leb i i (omega arith), le-leb i lines_limit (omega arith)) (ends_rising is i at h)
 
-last_end_lem : (is : List Item) (i at : ℕ) → last_end_lem i (ends_from i is) ≡ i + length (words_from at is)
-unfolding ends_from words_from last_end_lem
+last_end_lem : (is : List Item) (i at : ℕ) → last_end i (ends_from i is) ≡ i + length (words_from at is)
+unfolding ends_from words_from last_end
 last_end_lem [] i at = omega arith
 last_end_lem (does s ∷ is) i at = more (ends_from (i + 1) is) (ends_count is (i + 1)) ∙ last_end_lem is (i + 1) (at + length (data_of s)) ∙ omega arith
   where
     -- where there is an end, the first place does not matter
-    more : (es : List ℕ) → length es ≡ nexts_in is + 1 → last_end_lem i es ≡ last_end_lem (i + 1) es
+    more : (es : List ℕ) → length es ≡ nexts_in is + 1 → last_end i es ≡ last_end (i + 1) es
     more [] e = absurd (omega arith)
     more (x ∷ es) e = refl
 last_end_lem (next ∷ is) i at = last_end_lem is i at
@@ -154,7 +154,7 @@ module _ (stretch : List Statement → ℕ) (s : Script) (g : Good stretch s) wh
       let ws : List ℕ = words_from 0 s.body in
       let bytes : List ℕ = pool_of s.body in
       let used : length bytes ≤ data_limit = omega (arith, pool_length s.body, g.bytes) in
-      let last : last_end_lem 0 es ≡ length ws = last_end_lem s.body 0 0 ∙ omega arith in
+      let last : last_end 0 es ≡ length ws = last_end_lem s.body 0 0 ∙ omega arith in
       let fit = words_fit_lem (padded data_limit bytes) (replicate (data_limit - length bytes) 0) s.body 0 g.rights refl (omega arith) in
       let end : words_end 0 ws ≡ length bytes = fit.1 ∙ omega arith in
       rw (pad_take process_limit es, last, pad_take lines_limit ws, fit.0, pad_drop lines_limit ws, end, eq-eqb (length bytes) (length bytes) refl, le-leb (length bytes) data_limit used, pad_drop data_limit bytes)

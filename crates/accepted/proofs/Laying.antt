@@ -16,7 +16,7 @@ use Rattle.language.specs.Script.{unset, byte, Item}
 use Rattle.language.specs.Meaning.{extension}
 use Rattle.language.specs.Listing.{listed_lines}
 use Rattle.language.specs.Table.{padded, words_from, pool_of, encodes, encode_byte_of, heads_of, laid_out, body_from, letters_of, settings_of, script_of}
-use Rattle.accepted.specs.Inside.Heads.{all_zero, rising, last_end_lem, ends_of, in_use, ends_right, settings_fit, first_empty, settings_in}
+use Rattle.accepted.specs.Inside.Heads.{all_zero, rising, last_end, ends_of, in_use, ends_right, settings_fit, first_empty, settings_in}
 use Rattle.accepted.specs.Inside.Cells.{cells_fit, words_fit, words_end}
 use Rattle.accepted.specs.Inside.Lines.{cells_right, lines_in}
 use Rattle.accepted.proofs.Exactly.{heads_equal, tables_equal}
@@ -81,8 +81,8 @@ pub record Typed (t : Table) : Type 0 where
 some_ends : (n : ℕ) (l : List ℕ) → 1 ≤ n → 1 ≤ length l → take n l ≡ [] → ⊥
 some_ends n l h k e = let z = sym (length-take n l) ∙ ap length e in omega arith
 
-pub last_few : (es : List ℕ) (i : ℕ) → rising i es ≡ true → i ≤ lines_limit → last_end_lem i es ≤ lines_limit
-unfolding rising last_end_lem
+pub last_few : (es : List ℕ) (i : ℕ) → rising i es ≡ true → i ≤ lines_limit → last_end i es ≤ lines_limit
+unfolding rising last_end
 last_few [] i r l = l
 last_few (e ∷ es) i r l =
     let q = both_right (leb i e) _ r in
@@ -116,7 +116,7 @@ module _ (t : Table) (ty : Typed t) where
     pub whole : Body t.pool t.cells 0 0 (ends_of h)
     whole = go (ends_of h) ends_rise words_fit_lem (some_ends h.processes h.ends processes_some (omega (arith, ty.ends)))
       where
-        go : (es : List ℕ) → rising 0 es ≡ true → words_fit t.pool 0 (take (last_end_lem 0 es) t.cells) ≡ true → (es ≡ [] → ⊥) → Body t.pool t.cells 0 0 es
+        go : (es : List ℕ) → rising 0 es ≡ true → words_fit t.pool 0 (take (last_end 0 es) t.cells) ≡ true → (es ≡ [] → ⊥) → Body t.pool t.cells 0 0 es
         go [] r f none = absurd (none refl)
         go (e ∷ es) r f none = body t.pool t.cells ty.pool ty.cells e es 0 0 r f
 

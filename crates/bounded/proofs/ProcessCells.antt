@@ -11,7 +11,7 @@ use borrow.Author.Tests.{leb-true}
 use Rattle.reader.proofs.Tests.{both_left, both_right}
 use Rattle.language.specs.Limits.{lines_limit, data_limit}
 use Rattle.accepted.specs.Inside.Cells.{words_fit, words_end}
-use Rattle.accepted.specs.Inside.Heads.{rising, last_end_lem}
+use Rattle.accepted.specs.Inside.Heads.{rising, last_end}
 use Rattle.accepted.proofs.Bodies.{fit_append, end_append, last_rises}
 use Rattle.bounded.proofs.Joining.{end_rises}
 use Rattle.bounded.proofs.Moves.{Fits}
@@ -53,8 +53,8 @@ pub record Between (from e last : ℕ) : Type 0 where
   pub small : e ≤ lines_limit
   pub most : e ≤ last
 
-pub rising_at : (es : List ℕ) (from i : ℕ) → rising from es ≡ true → i < length es → Between (get_or (from ∷ es) i 0) (get_or es i 0) (last_end_lem from es)
-unfolding rising last_end_lem
+pub rising_at : (es : List ℕ) (from i : ℕ) → rising from es ≡ true → i < length es → Between (get_or (from ∷ es) i 0) (get_or es i 0) (last_end from es)
+unfolding rising last_end
 rising_at [] from i h l = absurd (omega arith)
 rising_at (e ∷ es) from zero h l =
     let r = both_right (leb from e) _ h in

@@ -5,7 +5,7 @@ use Prim.Native.Nat.{ℕ, zero, suc, ◌+◌, ◌*◌, max}
 use lib.Dec.{eqb}
 use Rattle.figures.specs.declared.Figures.{Figures}
 use Rattle.figures.specs.Cap.{over, cap}
-use Rattle.figures.specs.Figures.{fig, capped, join, joined_capped, one_statement, never, empty, last_of_lem, again, copies_capped, looped}
+use Rattle.figures.specs.Figures.{fig, capped, join, joined_capped, one_statement, never, empty, last_of, again, copies_capped, looped}
 use Rattle.figures.proofs.Associative.{fig_path}
 use Rattle.figures.proofs.Cap.{cap_max}
 
@@ -17,11 +17,11 @@ module _ (a b : Figures) where
   pub joined_ends : a.ends ≡ true →
       joined_capped a b ≡ fig (a.rests || b.rests) b.ends
       (cond a.rests (cap a.first) (cap (a.first + b.first)))
-      (cond b.rests (cap b.last) (cap (last_of_lem a + b.first)))
-      (max (max (cap a.longest) (cap b.longest)) (cap (last_of_lem a + b.first)))
+      (cond b.rests (cap b.last) (cap (last_of a + b.first)))
+      (max (max (cap a.longest) (cap b.longest)) (cap (last_of a + b.first)))
   unfolding join capped
   joined_ends h = rw h
-      (fig_path refl refl (cap_cond a.rests a.first (a.first + b.first)) (cap_cond b.rests b.last (last_of_lem a + b.first)) (simp cap_max))
+      (fig_path refl refl (cap_cond a.rests a.first (a.first + b.first)) (cap_cond b.rests b.last (last_of a + b.first)) (simp cap_max))
 
   pub joined_never : a.ends ≡ false → joined_capped a b ≡ capped a
   unfolding join

@@ -25,15 +25,15 @@ abbrev pub never : Figures
 never = fig false false 0 0 0
 
 -- the last run, which in a fragment without a rest is the first
-abbrev pub last_of_lem : Figures → ℕ
-last_of_lem a = cond a.rests a.last a.first
+abbrev pub last_of : Figures → ℕ
+last_of a = cond a.rests a.last a.first
 
 -- b after a, where a ends: the last run of a and the first of b are one run
 abbrev pub meld : Figures → Figures → Figures
 meld a b = fig (a.rests || b.rests) b.ends
     (cond a.rests a.first (a.first + b.first))
-    (cond b.rests b.last (last_of_lem a + b.first))
-    (max (max a.longest b.longest) (last_of_lem a + b.first))
+    (cond b.rests b.last (last_of a + b.first))
+    (max (max a.longest b.longest) (last_of a + b.first))
 
 -- "a forever loop .., after which nothing counts"
 unfoldable pub join : Figures → Figures → Figures

@@ -10,7 +10,7 @@ use borrow.Author.Tests.{ltb-true, lt-ltb, leb-true, ne_eqb}
 use Rattle.reader.specs.Bytes.{all}
 use Rattle.reader.proofs.Tests.{both, both_left, both_right, Every, every_of}
 use Rattle.reader.proofs.Solid.{Solid}
-use Rattle.language.specs.Listing.{is_plain_lem}
+use Rattle.language.specs.Listing.{is_plain}
 use Rattle.language.specs.Right.{is_byte, in_line}
 
 pub not-true : (a : Bool) → not a ≡ true → a ≡ false
@@ -49,10 +49,10 @@ pub line_bytes : (l : List ℕ) → all in_line l ≡ true → all is_byte l ≡
 unfolding in_line
 line_bytes l h = all_so in_line is_byte (λ b e. both_left (is_byte b) (not (eqb b 10)) e) l h
 
-pub plain_line : (l : List ℕ) → all is_plain_lem l ≡ true → all in_line l ≡ true
-unfolding is_plain_lem
+pub plain_line : (l : List ℕ) → all is_plain l ≡ true → all in_line l ≡ true
+unfolding is_plain
 plain_line l h =
-    all_so is_plain_lem in_line
+    all_so is_plain in_line
     (λ b e.
     let p : 32 ≤ b = leb-true 32 b (both_left (leb 32 b) (leb b 126) e) in
     let q : b ≤ 126 = leb-true b 126 (both_right (leb 32 b) (leb b 126) e) in

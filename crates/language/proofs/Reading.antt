@@ -17,7 +17,7 @@ use Rattle.hex_data.specs.declared.HexStep.{HexStep}
 use Rattle.hex_data.specs.declared.HexStep.TheVariants.{Refuse, Skip, First, Whole}
 use Rattle.reader.proofs.Tests.{both, both_right, by_cases}
 use Rattle.language.specs.Clock.{Range, within, value_before, fill, from, clock_of, second_on, minute_on, hour_on, day_on}
-use Rattle.language.specs.Listing.{last_of_lem}
+use Rattle.language.specs.Listing.{last_of}
 use Rattle.language.specs.Right.{is_byte, in_ranges, clock_right}
 use Rattle.language.proofs.Clocks.{in_length}
 
@@ -66,7 +66,7 @@ number_reads most limit l at = go_reads most limit (drop at l) 0 0 at (omega ari
 pub record Bytes (room : ℕ) (bs : List ℕ) : Type 0 where
   pub small : all is_byte bs ≡ true
   pub few : length bs * 2 ≤ suc room
-  pub last : length bs * 2 ≡ suc room → last_of_lem bs < 16
+  pub last : length bs * 2 ≡ suc room → last_of bs < 16
 
 none : (room : ℕ) → Bytes room []
 none room = record { small = refl; few = omega arith; last = λ e. omega arith }
@@ -76,7 +76,7 @@ unfolding is_byte
 lone h k = record { small = both (ltb h 256) true (lt-ltb h 256 (omega arith)) refl; few = omega arith; last = λ e. k }
 
 -- a byte in front leaves the last one where it is
-last_of_lem : (b : ℕ) (bs : List ℕ) → 0 < length bs → last_of_lem (b ∷ bs) ≡ last_of_lem bs
+last_of_lem : (b : ℕ) (bs : List ℕ) → 0 < length bs → last_of (b ∷ bs) ≡ last_of bs
 last_of_lem b bs h = let e : length (b ∷ bs) - 1 ≡ suc (length bs - 1) = omega arith in rw e
 
 one_more : (room b : ℕ) (bs : List ℕ) → b < 256 → Bytes room bs → Bytes (2 + room) (b ∷ bs)

@@ -20,7 +20,7 @@ use Rattle.language.specs.Limits.{line_limit, send_room, wait_room, log_room}
 use Rattle.language.specs.Clock.{clock_text}
 use Rattle.language.specs.Script.{Statement, send, loop, end, wait_time, wait_data, wait_byte, wait_clock, wait_signal, rts, log, fchange, pause, resume, nop, data_of}
 use Rattle.language.specs.Meaning.{signs}
-use Rattle.language.specs.Listing.{is_plain_lem, in_hex, last_in_one, short_hex, data_text, count_text, time_text, on_text, signal_text, log_text, line_for}
+use Rattle.language.specs.Listing.{is_plain, in_hex, last_in_one, short_hex, data_text, count_text, time_text, on_text, signal_text, log_text, line_for}
 use Rattle.language.specs.Right.{is_byte, in_line, data_right, time_right, log_right, right}
 use Rattle.language.proofs.Bytes.{bytes_are, solid_line, plain_line}
 use Rattle.language.proofs.Clocks.{clock_length, clock_solid}
@@ -41,12 +41,12 @@ record Written (room : ℕ) (bs l : List ℕ) : Type 0 where
 written : (room : ℕ) (bs : List ℕ) → data_right room bs ≡ true → Written room bs (data_text room bs)
 unfolding data_right data_text in_hex in_line is_byte
 written room bs h =
-    go (last_in_one room bs) (all is_plain_lem bs) (leb (length bs * 2) room) refl refl refl (both_right (all is_byte bs) _ h)
+    go (last_in_one room bs) (all is_plain bs) (leb (length bs * 2) room) refl refl refl (both_right (all is_byte bs) _ h)
   where
     bytes : all is_byte bs ≡ true
     bytes = both_left (all is_byte bs) _ h
 
-    go : (o p q : Bool) → last_in_one room bs ≡ o → all is_plain_lem bs ≡ p → leb (length bs * 2) room ≡ q → (q || (o || (leb (length bs) room && all in_line bs))) ≡ true
+    go : (o p q : Bool) → last_in_one room bs ≡ o → all is_plain bs ≡ p → leb (length bs * 2) room ≡ q → (q || (o || (leb (length bs) room && all in_line bs))) ≡ true
         → Written room bs (cond o (58 ∷ short_hex bs) (cond (not p && q) (58 ∷ hex_text bs) (47 ∷ bs)))
     go true p q e a l r =
         let n : length (short_hex bs) ≡ room = short_length room bs e in

@@ -10,27 +10,27 @@ use Rattle.language.specs.Script.{Statement, send, loop, end, wait_time, wait_da
 
 -- "Data in hex .. where a byte lies outside 20h to 7Eh and the line fits in 127; else text": `room` is what the line has left
 -- after the mark
-unfoldable pub is_plain_lem : ℕ → Bool
-is_plain_lem b = leb 32 b && leb b 126
+unfoldable pub is_plain : ℕ → Bool
+is_plain b = leb 32 b && leb b 126
 
 -- "where a byte lies outside 20h to 7Eh and the line fits in 127"
 unfoldable pub in_hex : ℕ → List ℕ → Bool
-in_hex room bs = not (all is_plain_lem bs) && leb (length bs * 2) room
+in_hex room bs = not (all is_plain bs) && leb (length bs * 2) room
 
 -- the last of some bytes, and those before it
-abbrev pub last_of_lem : List ℕ → ℕ
-last_of_lem bs = get_or bs (length bs - 1) 0
+abbrev pub last_of : List ℕ → ℕ
+last_of bs = get_or bs (length bs - 1) 0
 
 abbrev pub front_of : List ℕ → List ℕ
 front_of bs = take (length bs - 1) bs
 
 -- No. 5: "a WAIT DATA line can now hold 58 bytes, the last below 10h": with two digits for each they are one over the room
 unfoldable pub last_in_one : ℕ → List ℕ → Bool
-last_in_one room bs = eqb (length bs * 2) (suc room) && ltb (last_of_lem bs) 16
+last_in_one room bs = eqb (length bs * 2) (suc room) && ltb (last_of bs) 16
 
 -- No. 5: "in that one case the listing writes the last byte as one digit", and those before it in two
 unfoldable pub short_hex : List ℕ → List ℕ
-short_hex bs = hex_text (front_of bs) ++ capital (last_of_lem bs) ∷ []
+short_hex bs = hex_text (front_of bs) ++ capital (last_of bs) ∷ []
 
 -- No. 5's case; then "Data in hex", after `:`, "else text", after `/`
 unfoldable pub data_text : ℕ → List ℕ → List ℕ

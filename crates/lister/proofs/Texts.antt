@@ -12,7 +12,7 @@ use Rattle.writer.specs.Hex.{capital, hex_text}
 use Rattle.writer.specs.Put.{decimal}
 use Rattle.reader.proofs.Tests.{both_right}
 use Rattle.language.specs.declared.Span.{Span}
-use Rattle.language.specs.Listing.{is_plain_lem, in_hex, front_of, last_of_lem, last_in_one, short_hex, data_text, count_text, time_text, on_text, signal_text, log_text}
+use Rattle.language.specs.Listing.{is_plain, in_hex, front_of, last_of, last_in_one, short_hex, data_text, count_text, time_text, on_text, signal_text, log_text}
 use Rattle.language.specs.Table.{data_at}
 use Rattle.language.proofs.LastDigit.{one_over, last_small}
 use Rattle.lister.specs.Inside.Printed.{FitsListing}
@@ -32,7 +32,7 @@ module _ (room : ℕ) (bs : List ℕ) {o : Bool} (one : o ≡ last_in_one room b
   pub short_few : room ≤ 126 → o ≡ true → length bs ≤ 64
   short_few h k = omega (arith, one_over room bs (sym one ∙ k))
 
-  pub short_last : o ≡ true → last_of_lem bs < 16
+  pub short_last : o ≡ true → last_of bs < 16
   short_last k = last_small room bs (sym one ∙ k)
 
   module _ (k : o ≡ false) {t : Bool} (told : t ≡ in_hex room bs) where
@@ -46,27 +46,27 @@ module _ (room : ℕ) (bs : List ℕ) {o : Bool} (one : o ≡ last_in_one room b
 
 pub hex_few : (room : ℕ) (bs : List ℕ) {t : Bool} → t ≡ in_hex room bs → room ≤ 126 → t ≡ true → length bs ≤ 63
 unfolding in_hex
-hex_few room bs told h e = omega (arith, leb-true (length bs * 2) room (both_right (not (all is_plain_lem bs)) _ (sym told ∙ e)))
+hex_few room bs told h e = omega (arith, leb-true (length bs * 2) room (both_right (not (all is_plain bs)) _ (sym told ∙ e)))
 
 -- the bytes before the last, then the digit of the last
 module _ (bs : List ℕ) where
   pub front_few : length bs ≤ 64 → length (front_of bs) ≤ 63
   front_few h = omega (arith, length-take (length bs - 1) bs)
 
-  module _ (small : last_of_lem bs < 16) where
-    pub short_parts : {d : ℕ} → d ≡ capital (last_of_lem bs % 16) → hex_text (front_of bs) ++ (d ∷ []) ≡ short_hex bs
+  module _ (small : last_of bs < 16) where
+    pub short_parts : {d : ℕ} → d ≡ capital (last_of bs % 16) → hex_text (front_of bs) ++ (d ∷ []) ≡ short_hex bs
     unfolding short_hex
-    short_parts is = let e : last_of_lem bs % 16 ≡ last_of_lem bs = omega arith in rw (is, e)
+    short_parts is = let e : last_of bs % 16 ≡ last_of bs = omega arith in rw (is, e)
 
     module _ {at : ℕ} (room : FitsListing at (short_hex bs)) where
-      both_room : FitsListing at (hex_text (front_of bs) ++ (capital (last_of_lem bs % 16) ∷ []))
+      both_room : FitsListing at (hex_text (front_of bs) ++ (capital (last_of bs % 16) ∷ []))
       both_room = room_is (short_parts refl) room
 
       pub front_room : FitsListing at (hex_text (front_of bs))
-      front_room = first_room (hex_text (front_of bs)) (capital (last_of_lem bs % 16) ∷ []) both_room
+      front_room = first_room (hex_text (front_of bs)) (capital (last_of bs % 16) ∷ []) both_room
 
-      pub digit_room : {r : ℕ} → r ≡ at + length (hex_text (front_of bs)) → FitsListing r (capital (last_of_lem bs % 16) ∷ [])
-      digit_room e = then_room (hex_text (front_of bs)) (capital (last_of_lem bs % 16) ∷ []) both_room e
+      pub digit_room : {r : ℕ} → r ≡ at + length (hex_text (front_of bs)) → FitsListing r (capital (last_of bs % 16) ∷ [])
+      digit_room e = then_room (hex_text (front_of bs)) (capital (last_of bs % 16) ∷ []) both_room e
 
 -- a part of the pool
 pub held : (pool : List ℕ) (s : Span) {f n : ℕ} → f ≡ s.from → n ≡ s.count → take (f + n - f) (drop f pool) ≡ data_at pool s

@@ -1,11 +1,11 @@
 // Which data a listing has in hex.
 ghost use Rattle.std.specs.Prelude.{◌≡◌};
 ghost use Rattle.reader.specs.Bytes.{all};
-ghost use Rattle.language.specs.Listing.{is_plain_lem, in_hex};
+ghost use Rattle.language.specs.Listing.{is_plain, in_hex};
 
 // Whether every byte lies in 20h to 7Eh.
 fn all_plain(text: &[u8]) -> bool
-    ensures { result ≡ all is_plain_lem text.now }
+    ensures { result ≡ all is_plain text.now }
 {
     let mut i = 0usize;
     while i < text.len() {

@@ -2,7 +2,7 @@
 ghost use Rattle.std.specs.Prelude.{◌≡◌, cond, [], ◌≤◌, ◌<◌, length, take, set};
 ghost use Rattle.writer.specs.Hex.{hex_text};
 ghost use Rattle.writer.specs.Put.{decimal, two_digits};
-ghost use Rattle.language.specs.Listing.{last_of_lem, short_hex};
+ghost use Rattle.language.specs.Listing.{last_of, short_hex};
 ghost use Rattle.lister.specs.Inside.Printed.{FitsListing, Printed};
 
 use language::SEND_ROOM;
@@ -72,7 +72,7 @@ pub(crate) fn hex(out: &mut [u8], at: usize, bytes: &[u8]) -> usize
 pub(crate) fn short_hex(out: &mut [u8], at: usize, bytes: &[u8]) -> usize
     requires { (0 < length bytes.now)
         × (length bytes.now ≤ 64)
-        × (last_of_lem bytes.now < 16)
+        × (last_of bytes.now < 16)
         × FitsListing at (short_hex bytes.now) }
     ensures { Printed (short_hex bytes.now) out.old at result out.new }
 {

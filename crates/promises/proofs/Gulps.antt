@@ -237,4 +237,4 @@ module _ (t : Table) (b : Box) where
 
 -- THE THEOREM
 pub gulps_are_single : GulpsAreSingle
-gulps_are_single = record { of_bytes_lem = of_bytes_lem; of_ticks = of_ticks_lem; right = ranges_stay; wrote = bytes_wrote }
+gulps_are_single = record { of_bytes = of_bytes_lem; of_ticks = of_ticks_lem; right = ranges_stay; wrote = bytes_wrote }

@@ -66,7 +66,7 @@ pub record RecordsWrote (t : Table) (b : Box) (run out records : List ℕ) : Typ
 
 -- of every gulp that is not refused
 pub record GulpsAreSingle : Type 0 where
-  pub of_bytes_lem : (t : Table) (b : Box) (run : List ℕ) (room : ℕ) (g : Gulp) (records : List ℕ) →
+  pub of_bytes : (t : Table) (b : Box) (run : List ℕ) (room : ℕ) (g : Gulp) (records : List ℕ) →
       (called t (bytes run room) b).reply ≡ gulp (Took g) records → BytesAreSingle t b run room g records
   pub of_ticks : (t : Table) (b : Box) (n : ℕ) (g : Gulp) (records : List ℕ) →
       (called t (ticks n) b).reply ≡ gulp (Took g) records → TicksAreSingle t b n g records

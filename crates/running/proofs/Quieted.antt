@@ -27,7 +27,7 @@ use Rattle.bounded.specs.Demand3.{tally, next_call, after_calls, fresh}
 use Rattle.bounded.specs.Demand3 as demand3
 use Rattle.bounded.proofs.Several.{busy_lowest}
 use Rattle.running.specs.Running.{Box, busy, Deed, does, Called, started, called}
-use Rattle.running.specs.Neighbours.{Fed, calls_of, is_single, drained_by, fed_with, quietly, accepted, of_script, enough, Quiets, in_range_lem, HasRuns}
+use Rattle.running.specs.Neighbours.{Fed, calls_of, is_single, drained_by, fed_with, quietly, accepted, of_script, enough, Quiets, in_range, HasRuns}
 use Rattle.running.proofs.Starts.{Bears}
 use Rattle.running.proofs.Drains.{says_so, one_statement_lem, quiet_idle}
 use Rattle.running.proofs.Following.{Follows, start_follows, answers, follows_on, busy_is}
@@ -147,7 +147,7 @@ module _ (t : Table) (s : Script) (n : ℕ) (a : Bears t s n) where
         record { quiet = both (not (busy (fed_with (of_script s) (feed q) c))) _ (ap not i) h.quiet; taken = both (was_taken (called s q c).reply) _ e h.taken }
 
     -- an event in range is taken at a quiet moment
-    in_range_lem : (c : Box) (q : Call) → busy c ≡ false → in_range_lem q ≡ true → was_taken (called s q c).reply ≡ true
+    in_range_lem : (c : Box) (q : Call) → busy c ≡ false → in_range q ≡ true → was_taken (called s q c).reply ≡ true
     unfolding called was_taken
     in_range_lem c start i e = true_is_false (sym e)
     in_range_lem c tick i e = rw i
@@ -158,13 +158,13 @@ module _ (t : Table) (s : Script) (n : ℕ) (a : Bears t s n) where
     in_range_lem c (bytes run m) i e = true_is_false (sym e)
     in_range_lem c (drain room) i e = true_is_false (sym e)
 
-    all_right_lem : (es : List Call) → all in_range_lem es ≡ true → (b : calls.Box) (c : Box) (f : ℕ → ℕ) → Follows t n b c f → busy c ≡ false → Right c es
+    all_right_lem : (es : List Call) → all in_range es ≡ true → (b : calls.Box) (c : Box) (f : ℕ → ℕ) → Follows t n b c f → busy c ≡ false → Right c es
     unfolding quietly accepted
     all_right_lem [] e b c f z i = record { quiet = refl; taken = refl }
     all_right_lem (q ∷ es) e b c f z i =
-        feeds b c _ q es (follows_on t s n a b c f z q) (in_range_lem c q i (both_left (in_range_lem q) _ e)) (all_right_lem es (both_right (in_range_lem q) _ e))
+        feeds b c _ q es (follows_on t s n a b c f z q) (in_range_lem c q i (both_left (in_range q) _ e)) (all_right_lem es (both_right (in_range q) _ e))
 
-    from_start : (b : calls.Box) (c : Box) (es : List Call) → all in_range_lem es ≡ true → Right c (start ∷ es)
+    from_start : (b : calls.Box) (c : Box) (es : List Call) → all in_range es ≡ true → Right c (start ∷ es)
     unfolding called was_taken
     from_start b c es e = feeds b c _ start es (start_follows t s n a b c) refl (all_right_lem es e)
 
@@ -176,7 +176,7 @@ module _ (t : Table) (s : Script) (n : ℕ) (a : Bears t s n) where
     their_buffers [] = refl
     their_buffers (q ∷ qs) = both (all wide rooms) _ w (their_buffers qs)
 
-is_event_lem : (q : Call) → in_range_lem q ≡ true → is_event q ≡ true
+is_event_lem : (q : Call) → in_range q ≡ true → is_event q ≡ true
 is_event_lem start e = e
 is_event_lem tick e = refl
 is_event_lem (byte x) e = refl
@@ -186,7 +186,7 @@ is_event_lem (ticks n) e = refl
 is_event_lem (bytes run room) e = refl
 is_event_lem (drain room) e = e
 
-is_single_lem : (q : Call) → in_range_lem q ≡ true → is_single q ≡ true
+is_single_lem : (q : Call) → in_range q ≡ true → is_single q ≡ true
 is_single_lem start e = refl
 is_single_lem tick e = refl
 is_single_lem (byte x) e = refl
@@ -196,9 +196,9 @@ is_single_lem (ticks n) e = e
 is_single_lem (bytes run room) e = e
 is_single_lem (drain room) e = refl
 
-all_too : (test : Call → Bool) → ((q : Call) → in_range_lem q ≡ true → test q ≡ true) → (es : List Call) → all in_range_lem es ≡ true → all test es ≡ true
+all_too : (test : Call → Bool) → ((q : Call) → in_range q ≡ true → test q ≡ true) → (es : List Call) → all in_range es ≡ true → all test es ≡ true
 all_too test f [] e = refl
-all_too test f (q ∷ es) e = both (test q) _ (f q (both_left (in_range_lem q) _ e)) (all_too test f es (both_right (in_range_lem q) _ e))
+all_too test f (q ∷ es) e = both (test q) _ (f q (both_left (in_range q) _ e)) (all_too test f es (both_right (in_range q) _ e))
 
 -- THE THEOREM
 pub quiets : Quiets

@@ -19,7 +19,7 @@ use Rattle.runner.specs.Calls as calls
 use Rattle.runner.specs.Calls.{Call, start, tick, byte, reading, level, ticks, bytes, drain, gulp, outcome}
 use Rattle.running.specs.Running as script
 use Rattle.running.specs.Running.{Process, Box, Next, idle, statement, next, busy, Turn, none, later, takes, turn, Called, drained, times_recorded, started, called}
-use Rattle.running.specs.Called.{box_after, paused_since, paused_after, paused_then_lem, records_of, RecordedRight}
+use Rattle.running.specs.Called.{box_after, paused_since, paused_after, paused_then, records_of, RecordedRight}
 use Rattle.running.proofs.Gulps.{refuses_gulp, takes_gulp, came, ticks_gulped, bytes_gulped, bytes_recorded}
 use Rattle.running.proofs.Drains.{says_so}
 
@@ -81,10 +81,10 @@ module _ (s : Script) (b : Box) where
           let many : (came s b run room).taken ≡ g.taken = cc in
           written ∙ bytes_recorded s b run room i ∙ ap (λ (n : ℕ). records_of s b.paused (take n run)) many
 
-paused_then_lem : (s : Script) (qs : List Call) (b : Box) → (box_after s b qs).paused ≡ paused_then_lem s b qs b.paused
-unfolding box_after paused_then_lem
+paused_then_lem : (s : Script) (qs : List Call) (b : Box) → (box_after s b qs).paused ≡ paused_then s b qs b.paused
+unfolding box_after paused_then
 paused_then_lem s [] b = refl
-paused_then_lem s (q ∷ qs) b = paused_then_lem s qs (called s q b).box ∙ ap (paused_then_lem s (called s q b).box qs) (paused_once s b q)
+paused_then_lem s (q ∷ qs) b = paused_then_lem s qs (called s q b).box ∙ ap (paused_then s (called s q b).box qs) (paused_once s b q)
 
 pub recorded_right : (s : Script) (b : Box) (qs : List Call) → RecordedRight s b qs
 recorded_right s b qs = record {

@@ -118,7 +118,7 @@ signal_first n on (drain room) = refl
 pub waits_end : WaitsEnd
 waits_end = record {
   of_time = ends_at_last is_tick for_ticks time_less;
-  of_bytes_lem = ends_at_last is_received for_bytes bytes_less;
+  of_bytes = ends_at_last is_received for_bytes bytes_less;
   of_data = data_wait;
   of_clock = λ vs. ends_at_first (reading_matches vs) (for_clock vs) (clock_first vs);
   of_signal = λ n on. ends_at_first (sets_level n on) (for_signal n on) (signal_first n on);
@@ -141,7 +141,7 @@ unfolding does unless_zero unless_holds
 waits_begin b p ss = record {
   of_time = λ n l. rw (ne_eqb n 0 (λ e. omega arith));
   of_no_time = refl;
-  of_bytes_lem = λ n l. rw (ne_eqb n 0 (λ e. omega arith));
+  of_bytes = λ n l. rw (ne_eqb n 0 (λ e. omega arith));
   of_no_bytes = refl;
   of_data = λ d. refl;
   of_clock = λ vs. refl;

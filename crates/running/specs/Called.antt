@@ -151,9 +151,9 @@ paused_after (bytes run room) r p = p
 paused_after (drain room) r p = paused_said r p
 
 -- the replies to some calls say whether it is paused after them
-unfoldable pub paused_then_lem : Script → Box → List Call → Bool → Bool
-paused_then_lem s b [] p = p
-paused_then_lem s b (q ∷ qs) p = paused_then_lem s (called s q b).box qs (paused_after q (called s q b).reply p)
+unfoldable pub paused_then : Script → Box → List Call → Bool → Bool
+paused_then s b [] p = p
+paused_then s b (q ∷ qs) p = paused_then s (called s q b).box qs (paused_after q (called s q b).reply p)
 
 -- the records of some bytes, each as often as document 01 says
 unfoldable pub records_of : Script → Bool → List ℕ → List ℕ
@@ -162,11 +162,11 @@ records_of s paused (x ∷ xs) = replicate (times_recorded s.settings paused x) 
 
 -- after any calls: paused exactly as the outcomes up to now said, and a byte that is taken is recorded as often as document 01 says, one of a gulp too
 pub record RecordedRight (s : Script) (b : Box) (qs : List Call) : Type 0 where
-  pub paused : (box_after s b qs).paused ≡ paused_then_lem s b qs b.paused
+  pub paused : (box_after s b qs).paused ≡ paused_then s b qs b.paused
   pub copied : (x : ℕ) (c : Copies) → (called s (byte x) (box_after s b qs)).reply ≡ calls.received (received.Took c) →
-      c.count ≡ times_recorded s.settings (paused_then_lem s b qs b.paused) x
+      c.count ≡ times_recorded s.settings (paused_then s b qs b.paused) x
   pub gulped : (run : List ℕ) (room : ℕ) (g : Gulp) (bs : List ℕ) → (called s (bytes run room) (box_after s b qs)).reply ≡ gulp (gulped.Took g) bs →
-      bs ≡ records_of s (paused_then_lem s b qs b.paused) (take g.taken run)
+      bs ≡ records_of s (paused_then s b qs b.paused) (take g.taken run)
 
 -- ---- LOG counts
 

@@ -213,19 +213,19 @@ Quiets =
     states.busy (drained_by (of_table t) (demand3.after_calls t (fresh t b) qs).box rooms).state ≡ false
 
 -- an event whose reading or signal is in range: neither 22 nor 23
-abbrev pub in_range_lem : Call → Bool
-in_range_lem start = false
-in_range_lem tick = true
-in_range_lem (byte x) = true
-in_range_lem (reading r) = reading_right r
-in_range_lem (level n on) = ltb n signals
-in_range_lem (ticks n) = false
-in_range_lem (bytes run room) = false
-in_range_lem (drain room) = false
+abbrev pub in_range : Call → Bool
+in_range start = false
+in_range tick = true
+in_range (byte x) = true
+in_range (reading r) = reading_right r
+in_range (level n on) = ltb n signals
+in_range (ticks n) = false
+in_range (bytes run room) = false
+in_range (drain room) = false
 
 -- so every list of such events can be fed as No. 10 asks, with so many drains after the start and after each
 abbrev pub HasRuns : Type 0
 HasRuns =
-    (text : List ℕ) (t : Table) (k : ℕ) → Compiles text t k → (b : runner.Box) (es : List Call) → all in_range_lem es ≡ true →
+    (text : List ℕ) (t : Table) (k : ℕ) → Compiles text t k → (b : runner.Box) (es : List Call) → all in_range es ≡ true →
     (rooms : List ℕ) → all wide rooms ≡ true → enough ≤ length rooms →
     AsAsked (of_table t) b es (map (λ (q : Call). record { call = q; rooms = rooms }) (start ∷ es))

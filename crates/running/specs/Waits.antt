@@ -111,7 +111,7 @@ pub record DataWait (d : List ℕ) : Type 0 where
 pub record WaitsEnd : Type 0 where
   -- "WAIT TIME of n ms ends at the n-th tick after it began. WAIT BYTE likewise for bytes."
   pub of_time : EndsAtLast is_tick for_ticks
-  pub of_bytes_lem : EndsAtLast is_received for_bytes
+  pub of_bytes : EndsAtLast is_received for_bytes
   -- the data are not empty
   pub of_data : (d : List ℕ) → 0 < length d → DataWait d
   -- "WAIT CLOCK ends at a later reading that matches, also when the clock has gone back": the readings may come in any order
@@ -129,7 +129,7 @@ wait_at b p ss s = (does b p ss s).process.wait
 pub record WaitsBegin (b : Box) (p : Process) (ss : List Statement) : Type 0 where
   pub of_time : (n : ℕ) → 0 < n → wait_at b p ss (wait_time n) ≡ for_ticks n
   pub of_no_time : wait_at b p ss (wait_time 0) ≡ for_nothing
-  pub of_bytes_lem : (n : ℕ) → 0 < n → wait_at b p ss (wait_byte n) ≡ for_bytes n
+  pub of_bytes : (n : ℕ) → 0 < n → wait_at b p ss (wait_byte n) ≡ for_bytes n
   pub of_no_bytes : wait_at b p ss (wait_byte 0) ≡ for_nothing
   pub of_data : (d : List ℕ) → wait_at b p ss (wait_data d) ≡ for_data d []
   pub of_clock : (vs : List ℕ) → wait_at b p ss (wait_clock vs) ≡ for_clock vs

@@ -21,9 +21,9 @@ rising i [] = true
 rising i (e ∷ es) = leb i e && (leb e cell_places && rising e es)
 
 -- where the last process ends
-unfoldable pub last_end_lem : ℕ → List ℕ → ℕ
-last_end_lem i [] = i
-last_end_lem i (e ∷ es) = last_end_lem e es
+unfoldable pub last_end : ℕ → List ℕ → ℕ
+last_end i [] = i
+last_end i (e ∷ es) = last_end e es
 
 -- the ends of the processes in use
 abbrev pub ends_of : Heads → List ℕ
@@ -31,7 +31,7 @@ ends_of h = take h.processes h.ends
 
 -- how many cells are in use
 abbrev pub in_use : Heads → ℕ
-in_use h = last_end_lem 0 (ends_of h)
+in_use h = last_end 0 (ends_of h)
 
 -- 1 to 8 processes, whose ends go up within the cells
 unfoldable pub ends_right : Heads → Bool

@@ -3,7 +3,7 @@ use mathlib.Core.Path.{◌≡◌, refl, sym, ◌∙◌}
 use Prim.Native.Nat.{◌-◌}
 use lib.ListN.{length, drop}
 use Rattle.reader.specs.Bytes.{all}
-use Rattle.language.specs.Listing.{is_plain_lem}
+use Rattle.language.specs.Listing.{is_plain}
 use Rattle.lister.proofs.Plain.{too_low, too_high, is_plain_lem}
 use Rattle.reader.proofs.Each.{each_past, each_not, each_end}
 use borrow.Author.Rules.{rules}
@@ -14,18 +14,18 @@ loop-i-init c = refl
 
 pub returns-then-b-lt32 : goal.returns-then-b-lt32
 returns-then-b-lt32 c =
-    sym (c.loop-i.invariant ∙ each_not is_plain_lem c.args.text.now c.loop-i.i 0
+    sym (c.loop-i.invariant ∙ each_not is_plain c.args.text.now c.loop-i.i 0
     c.loop-i-test.true (too_low _ c.if-b-lt32.true))
 
 pub returns-then-b-gt126 : goal.returns-then-b-gt126
 returns-then-b-gt126 c =
-    sym (c.loop-i.invariant ∙ each_not is_plain_lem c.args.text.now c.loop-i.i 0
+    sym (c.loop-i.invariant ∙ each_not is_plain c.args.text.now c.loop-i.i 0
     c.loop-i-test.true (too_high _ c.if-b-lt32.false c.if-b-gt126.true))
 
 pub loop-i-preserved : goal.loop-i-preserved
 loop-i-preserved c =
-    c.loop-i.invariant ∙ each_past is_plain_lem c.args.text.now c.loop-i.i 0
+    c.loop-i.invariant ∙ each_past is_plain c.args.text.now c.loop-i.i 0
     c.loop-i-test.true (is_plain_lem _ c.if-b-lt32.false c.if-b-gt126.false)
 
 pub returns : goal.returns
-returns c = sym (c.loop-i.invariant ∙ each_end is_plain_lem c.args.text.now c.loop-i.i c.loop-i-test.false)
+returns c = sym (c.loop-i.invariant ∙ each_end is_plain c.args.text.now c.loop-i.i c.loop-i-test.false)

@@ -3,14 +3,14 @@ use mathlib.Core.Path.{◌≡◌, refl, sym, ◌∙◌}
 use Prim.Native.Nat.{◌-◌}
 use lib.ListN.{length, drop}
 use Rattle.reader.specs.Bytes.{all}
-use Rattle.language.specs.Listing.{is_plain_lem}
+use Rattle.language.specs.Listing.{is_plain}
 use Rattle.lister.proofs.Plain.{too_low, too_high, is_plain_lem}
 use Rattle.reader.proofs.Each.{each_past, each_not, each_end}
 use borrow.Author.Rules.{rules}
 use Rattle.lister.proofs.hex_or_text.all_plain.Given as goal
 
 abbrev pub invariant-loop-i : goal.invariant-loop-i
-invariant-loop-i l = all is_plain_lem l.text ≡ all is_plain_lem (drop l.i l.text)
+invariant-loop-i l = all is_plain l.text ≡ all is_plain (drop l.i l.text)
 
 abbrev pub decreases-loop-i : goal.decreases-loop-i
 decreases-loop-i l = length l.text - l.i
