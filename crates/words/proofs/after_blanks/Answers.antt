@@ -15,10 +15,10 @@ pub returns-then-not-blank : goal.returns-then-not-blank
 unfolding after_blanks
 returns-then-not-blank c =
     sym (stopped counts_blanks c.loop-i.invariant (omega arith) c.blank.ensures
-    (not-true _ c.if-not-blank.true))
+    c.if-not-blank.true)
 
 pub loop-i-preserved : goal.loop-i-preserved
-loop-i-preserved c = passed counts_blanks c.loop-i.invariant (omega arith) c.blank.ensures (not-false _ c.if-not-blank.false)
+loop-i-preserved c = passed counts_blanks c.loop-i.invariant (omega arith) c.blank.ensures c.if-not-blank.false
 
 pub returns : goal.returns
 unfolding after_blanks

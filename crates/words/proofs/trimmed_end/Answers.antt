@@ -9,10 +9,10 @@ pub loop-end-init : goal.loop-end-init
 loop-end-init c = untrimmed
 
 pub returns-then-not-blank : goal.returns-then-not-blank
-returns-then-not-blank c = sym (kept c.loop-end.invariant (omega arith) c.blank.ensures (not-true _ c.if-not-blank.true))
+returns-then-not-blank c = sym (kept c.loop-end.invariant (omega arith) c.blank.ensures c.if-not-blank.true)
 
 pub loop-end-preserved : goal.loop-end-preserved
-loop-end-preserved c = trimmed c.loop-end.invariant (omega arith) c.blank.ensures (not-false _ c.if-not-blank.false)
+loop-end-preserved c = trimmed c.loop-end.invariant (omega arith) c.blank.ensures c.if-not-blank.false
 
 pub returns : goal.returns
 returns c = sym (all_trimmed c.loop-end.invariant (omega arith))

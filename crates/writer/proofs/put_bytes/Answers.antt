@@ -9,10 +9,10 @@ use Rattle.writer.proofs.Writing.{done, no_room, next_byte}
 use Rattle.writer.proofs.put_bytes.Goals as goal
 
 pub returns-then-not-has_room : goal.returns-then-not-has_room
-returns-then-not-has_room c = no_room _ _ _ (leb-false _ _ (sym c.has_room.ensures ∙ not-true _ c.if-not-has_room.true))
+returns-then-not-has_room c = no_room _ _ _ (leb-false _ _ (sym c.has_room.ensures ∙ c.if-not-has_room.true))
 
 pub loop-i-init : goal.loop-i-init
-loop-i-init c = begun (leb-true _ _ (sym c.has_room.ensures ∙ not-false _ c.if-not-has_room.false))
+loop-i-init c = begun (leb-true _ _ (sym c.has_room.ensures ∙ c.if-not-has_room.false))
 
 pub bounds-dst-place : goal.bounds-dst-place
 bounds-dst-place c = fits (next_byte _ _ c.loop-i-test.true c.loop-i.invariant)

@@ -7,10 +7,10 @@ use Rattle.writer.proofs.Widths.{Digiting, no_digits, unplaced, all_placed, powe
 use Rattle.writer.proofs.put_decimal.Goals as goal
 
 pub returns-then-not-has_room : goal.returns-then-not-has_room
-returns-then-not-has_room c = no_digits _ _ _ c.width-all.ensures.0 (leb-false _ _ (sym c.has_room.ensures ∙ not-true _ c.if-not-has_room.true))
+returns-then-not-has_room c = no_digits _ _ _ c.width-all.ensures.0 (leb-false _ _ (sym c.has_room.ensures ∙ c.if-not-has_room.true))
 
 pub loop-left-init : goal.loop-left-init
-loop-left-init c = unplaced c.width-all.ensures (omega arith) (leb-true _ _ (sym c.has_room.ensures ∙ not-false _ c.if-not-has_room.false))
+loop-left-init c = unplaced c.width-all.ensures (omega arith) (leb-true _ _ (sym c.has_room.ensures ∙ c.if-not-has_room.false))
 
 pub nonzero_div-dst : goal.nonzero_div-dst
 nonzero_div-dst c = power_left _ c.loop-left.invariant (omega arith)

@@ -7,17 +7,18 @@ use Rattle.language.specs.Column.{column_of, column_in}
 use Rattle.language.proofs.Inside.{line_inside}
 use Rattle.compiler.proofs.Asking.{other_first}
 use Rattle.compiler.proofs.columns.column_in.Goals as goal
+use Rattle.compiler.proofs.columns.column_in.Goals.{After-line_taken}
 
 -- the line is not too long
-taken-few : (c : goal.After-line_taken) → c.line_taken.result ≤ line_limit
+taken-few : (c : After-line_taken) → c.line_taken.result ≤ line_limit
 taken-few c =
     omega (arith, c.line_taken.ensures, line_inside c.args.line.now, c.requires c.in-BadRest.is)
 
 pub overflow_cast-result : goal.overflow_cast-result
-overflow_cast-result c = omega (arith, taken-few c)
+overflow_cast-result c = omega (arith, taken-few (goal.at.overflow_cast-result c).After-line_taken)
 
 pub overflow_add-result : goal.overflow_add-result
-overflow_add-result c = omega (arith, taken-few c)
+overflow_add-result c = omega (arith, taken-few (goal.at.overflow_add-result c).After-line_taken)
 
 pub returns-in-LineTooLong : goal.returns-in-LineTooLong
 unfolding column_in

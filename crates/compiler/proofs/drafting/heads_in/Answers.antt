@@ -13,15 +13,16 @@ use lib.ListN.{length, take, drop, replicate, length-drop}
 use lib.Seq.{length-take-le, take_all}
 use Rattle.compiler.proofs.Setting.{letters_at, put_whole, heads_read}
 use Rattle.compiler.proofs.drafting.heads_in.Goals as goal
+use Rattle.compiler.proofs.drafting.heads_in.Goals.{After-held-1}
 
 -- all of the lent bytes
-long : (c : goal.After-held-1) → length c.args.settings.now ≡ 17
+long : (c : After-held-1) → length c.args.settings.now ≡ 17
 long c = search rules
 
 pub returns : goal.returns
 returns c =
     let s = c.args.settings.now in
-    let l = long c in
+    let l = long (goal.at.returns c).After-omit-1 in
     let behind = length-drop 7 s in
     heads_read c.args.work c.args.ends.now s
     (c.put_bytes.ensures.1

@@ -10,16 +10,17 @@ use Rattle.compiler.specs.Inside.Drafting.{work_of}
 use Rattle.compiler.specs.Inside.Text.{clear_from}
 use Rattle.compiler.proofs.Folding.{Folding, Scanning, Lined, first, ready, opened, passed, at_end_lem, overlong, in_line_lem, goes_on_lem, short, refuses, all_taken, at_fault}
 use Rattle.compiler.proofs.lines.take_each.Goals as goal
+use Rattle.compiler.proofs.lines.take_each.Goals.{After-next_feed-end, In-loop-lent}
 
 -- sixteen bytes more hold no LF
-clears : (c : goal.In-loop-lent)
+clears : (c : In-loop-lent)
     → let at-scan = c in
     let at_entry_lem = at-scan.before.before.before.before.before in
     clear_from at_entry_lem.args.text.now at-scan.loop.clear ≡ true
 clears c = sym c.no_feed.ensures ∙ c.loop-lent-test.true
 
 -- where the line ends, at an LF or at the end of the text
-lined : (c : goal.After-next_feed-end)
+lined : (c : After-next_feed-end)
     → let at-lines = c in
     let at_entry_lem = at-lines.before.before.before in
     Lined
@@ -33,7 +34,7 @@ lined : (c : goal.After-next_feed-end)
 lined c = at_end_lem c.loop-lent.invariant c.next_feed-end.ensures
 
 -- a text is of bytes
-bytes : (c : goal.After-next_feed-end) (i : ℕ)
+bytes : (c : After-next_feed-end) (i : ℕ)
     → let at_entry_lem = c in
     get_or at_entry_lem.args.text.now i 0 < 256
 bytes c i =
@@ -53,55 +54,56 @@ overflow_sub-clear c = omega (arith, c.loop-lent.invariant.begun)
 
 pub overflow_add-clear : goal.overflow_add-clear
 overflow_add-clear c =
-    let q = passed c.loop-lent.invariant (clears c) in
+    let q = passed c.loop-lent.invariant (clears (goal.at.overflow_add-clear c).In-loop-lent) in
     omega (arith, q.upto)
 
 pub loop-lent-smaller : goal.loop-lent-smaller
 loop-lent-smaller c =
-    let q = passed c.loop-lent.invariant (clears c) in
+    let q = passed c.loop-lent.invariant (clears (goal.at.loop-lent-smaller c).In-loop-lent) in
     omega (arith, q.upto)
 
 pub loop-lent-preserved : goal.loop-lent-preserved
-loop-lent-preserved c = passed c.loop-lent.invariant (clears c)
+loop-lent-preserved c = passed c.loop-lent.invariant (clears (goal.at.loop-lent-preserved c).In-loop-lent)
 
 pub next_feed-end-requires : goal.next_feed-end-requires
 next_feed-end-requires c = c.loop-lent.invariant.upto
 
 pub without_cr-behind-requires : goal.without_cr-behind-requires
 without_cr-behind-requires c =
-    let g = lined c in
+    let g = lined (goal.at.without_cr-behind-requires c).After-next_feed-end in
     (g.begun, g.upto)
 
 pub slice_bounds-line-end : goal.slice_bounds-line-end
 slice_bounds-line-end c =
-    let g = lined c in
+    let g = lined (goal.at.slice_bounds-line-end c).After-next_feed-end in
     omega arith
 
 pub take_line-taken-requires : goal.take_line-taken-requires
-take_line-taken-requires c = (
-  ready c.lines.work c.lines.loops c.lines.ends c.lines.settings (lined c).folding,
-  in_line_lem _ (lined c) (bytes c) c.without_cr-behind.ensures.2,
-)
+take_line-taken-requires c =
+    (
+      ready c.lines.work c.lines.loops c.lines.ends c.lines.settings (lined (goal.at.take_line-taken-requires c).After-next_feed-end).folding,
+      in_line_lem _ (lined (goal.at.take_line-taken-requires c).After-next_feed-end) (bytes (goal.at.take_line-taken-requires c).After-next_feed-end) c.without_cr-behind.ensures.2,
+    )
 
 pub overflow_add-row : goal.overflow_add-row
 overflow_add-row c =
-    let g = lined c in
+    let g = lined (goal.at.overflow_add-row c).After-next_feed-end in
     omega (arith, g.folding.rows, g.begun, g.upto, c.requires.0)
 
 pub overflow_add-start : goal.overflow_add-start
 overflow_add-start c =
-    let g = lined c in
+    let g = lined (goal.at.overflow_add-start c).After-next_feed-end in
     omega (arith, g.upto)
 
 pub lines-smaller : goal.lines-smaller
 lines-smaller c =
-    let g = lined c in
+    let g = lined (goal.at.lines-smaller c).After-next_feed-end in
     omega (arith, c.lines-test.true, g.begun)
 
 pub lines-preserved : goal.lines-preserved
 lines-preserved c =
     let e = c.in_default.is in (
-      goes_on_lem _ (lined c) (bytes c)
+      goes_on_lem _ (lined (goal.at.lines-preserved c).After-next_feed-end) (bytes (goal.at.lines-preserved c).After-next_feed-end)
           c.without_cr-behind.ensures.2 _ _ _ c.take_line-taken.ensures e,
       e,
     )
@@ -109,7 +111,7 @@ lines-preserved c =
 -- a line whose rest is wrong is read for its column
 pub column_in-column-requires : goal.column_in-column-requires
 column_in-column-requires c =
-    short _ (lined c) (bytes c) c.without_cr-behind.ensures.2 _ _ _
+    short _ (lined (goal.at.column_in-column-requires c).After-next_feed-end) (bytes (goal.at.column_in-column-requires c).After-next_feed-end) c.without_cr-behind.ensures.2 _ _ _
     c.take_line-taken.ensures c.in-Stop.is
 
 -- after the last line
@@ -118,12 +120,12 @@ returns-after-lines c = all_taken _ _ _ _ _ _ c.lines.invariant.0 c.lines-test.f
 
 -- at a line that is too long
 pub returns-then-clear-start-gt-LINE : goal.returns-then-clear-start-gt-LINE
-returns-then-clear-start-gt-LINE c = at_fault _ _ _ _ _ _ _ _ _ refl refl (overlong c.loop-lent.invariant (clears c) c.if-clear-start-gt-LINE.true)
+returns-then-clear-start-gt-LINE c = at_fault _ _ _ _ _ _ _ _ _ refl refl (overlong c.loop-lent.invariant (clears (goal.at.returns-then-clear-start-gt-LINE c).In-loop-lent) c.if-clear-start-gt-LINE.true)
 
 -- at a line's fault
 pub returns-in-Stop : goal.returns-in-Stop
 returns-in-Stop c =
     let e = c.in-Stop.is in
     at_fault _ _ _ _ _ _ _ _ _ refl c.column_in-column.ensures
-    (refuses _ (lined c) (bytes c) c.without_cr-behind.ensures.2 _ _ _
+    (refuses _ (lined (goal.at.returns-in-Stop c).After-next_feed-end) (bytes (goal.at.returns-in-Stop c).After-next_feed-end) c.without_cr-behind.ensures.2 _ _ _
     c.take_line-taken.ensures e)

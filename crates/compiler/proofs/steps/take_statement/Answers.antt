@@ -10,28 +10,29 @@ use Rattle.language.specs.Cell.{coded}
 use Rattle.compiler.proofs.Standing.{handed}
 use Rattle.compiler.proofs.Writing.{sized, too_much, not_nested, statement_on, room_on}
 use Rattle.compiler.proofs.steps.take_statement.Goals as goal
+use Rattle.compiler.proofs.steps.take_statement.Goals.{After-count-size, After-write-arg-1}
 
 -- the data have room in the lent bytes
-few : (c : goal.After-count-size) → c.count-size.result ≤ 128
+few : (c : After-count-size) → c.count-size.result ≤ 128
 few c =
     sized c.args.cell c.needs_of-asked.result c.count-size.ensures c.needs_of-asked.ensures
     c.requires.1
 
 -- as many bytes are taken from the lent ones
-lent-long : (c : goal.After-write-arg-1)
+lent-long : (c : After-write-arg-1)
     → let at_entry_lem = c in
     length at_entry_lem.args.lent.now ≡ 128
 lent-long c = search rules
 
-held : (c : goal.After-write-arg-1)
+held : (c : After-write-arg-1)
     → let at_count = c in
     let at_entry_lem = at_count.before.before in
     length (take at_count.count.result at_entry_lem.args.lent.now) ≡ at_count.count.result
 held c =
-    length-take-le c.count-size.result c.args.lent.now (omega (arith, few c, lent-long c))
+    length-take-le c.count-size.result c.args.lent.now (omega (arith, few at_count, lent-long c))
 
 pub overflow_add-used : goal.overflow_add-used
-overflow_add-used c = omega (arith, few c)
+overflow_add-used c = omega (arith, few (goal.at.overflow_add-used c).After-count-size)
 
 pub returns-then-used-size-gt-DATA : goal.returns-then-used-size-gt-DATA
 returns-then-used-size-gt-DATA c =
@@ -39,13 +40,13 @@ returns-then-used-size-gt-DATA c =
     c.if-used-size-gt-DATA.true c.stop.ensures.0
 
 pub slice_bounds-write-end : goal.slice_bounds-write-end
-slice_bounds-write-end c = sym (held c)
+slice_bounds-write-end c = sym (held (goal.at.slice_bounds-write-end c).After-code-word)
 
 pub write-requires : goal.write-requires
 write-requires c =
     room_on c.nested-open.result _ _ [] [] (take c.count-size.result c.args.lent.now)
     (c.nested-open.ensures [] []) c.requires.0
-    (rw (held c) c.if-used-size-gt-DATA.false)
+    (rw (held (goal.at.write-requires c).After-write-arg-1) c.if-used-size-gt-DATA.false)
 
 pub returns-in-Stop : goal.returns-in-Stop
 returns-in-Stop c =
@@ -58,4 +59,4 @@ returns-in-Going c =
     c.if-used-size-gt-DATA.false (c.nested-open.ensures c.args.ends.now settings) _ _ _
     c.in-Going.is (c.code-word.ensures ∙ ap coded
     c.placed.ensures)
-    (c.write.ensures _ settings) (handed _ _ settings c.going.ensures) (omega (arith, few c, lent-long c))
+    (c.write.ensures _ settings) (handed _ _ settings c.going.ensures) (omega (arith, few (goal.at.returns-in-Going c).After-count-size, lent-long (goal.at.returns-in-Going c).After-write-arg-1))

@@ -16,12 +16,12 @@ returns-then-text-next c = no_more c.loop-i.invariant (omega arith) c.if-text-i-
 pub returns-then-not-is_sign : goal.returns-then-not-is_sign
 returns-then-not-is_sign c =
     bad_sign c.loop-i.invariant (omega arith) c.if-text-i-eq64.true (omega arith) c.is_sign.ensures
-    (not-true _ c.if-not-is_sign.true)
+    c.if-not-is_sign.true
 
 pub loop-i-preserved-then-text-i-eq64 : goal.loop-i-preserved-then-text-i-eq64
 loop-i-preserved-then-text-i-eq64 c =
     good_sign c.loop-i.invariant (omega arith) c.if-text-i-eq64.true (omega arith) c.is_sign.ensures
-    (not-false _ c.if-not-is_sign.false)
+    c.if-not-is_sign.false
 
 pub loop-i-preserved : goal.loop-i-preserved
 loop-i-preserved c = no_at c.loop-i.invariant (omega arith) c.if-text-i-eq64.false

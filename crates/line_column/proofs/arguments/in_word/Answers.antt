@@ -29,11 +29,11 @@ returns-then-not-right_word c =
     let kind = c.args.kind in
     let behind = behind_blanks_lem _ _ c.after_blanks-from.ensures (in_word (reader_of kind) (taken_of kind)) in
     not_right _ _ c.word_end-end.ensures (reader_of kind) (taken_of kind) c.word_taken-count.ensures c.if-count-end.false
-    c.right_word.ensures (not-true _ c.if-not-right_word.true) ∙ behind
+    c.right_word.ensures c.if-not-right_word.true ∙ behind
 
 pub returns : goal.returns
 returns c =
     let kind = c.args.kind in
     let behind = behind_blanks_lem _ _ c.after_blanks-from.ensures (in_word (reader_of kind) (taken_of kind)) in
     c.after_blanks.ensures ∙ next_word _ _ c.word_end-end.ensures (reader_of kind) (taken_of kind) c.word_taken-count.ensures
-    c.if-count-end.false c.right_word.ensures (not-false _ c.if-not-right_word.false) ∙ behind
+    c.if-count-end.false c.right_word.ensures c.if-not-right_word.false ∙ behind

@@ -19,12 +19,12 @@ pub returns-then-not-is_capital : goal.returns-then-not-is_capital
 unfolding lfext_taken
 returns-then-not-is_capital c =
     no_letter c.loop-i.invariant (omega arith) (omega arith) c.raise.ensures c.is_capital.ensures
-    (not-true _ c.if-not-is_capital.true)
+    c.if-not-is_capital.true
 
 pub loop-i-preserved : goal.loop-i-preserved
 loop-i-preserved c =
     letter c.loop-i.invariant (omega arith) (omega arith) c.raise.ensures c.is_capital.ensures
-    (not-false _ c.if-not-is_capital.false)
+    c.if-not-is_capital.false
 
 pub returns : goal.returns
 unfolding lfext_taken

@@ -12,7 +12,7 @@ pub loop-i-init : goal.loop-i-init
 loop-i-init c = record { whole = refl }
 
 pub returns-then-not-is_sign : goal.returns-then-not-is_sign
-returns-then-not-is_sign c = no_sign c.loop-i.invariant (omega arith) c.if-marked.true c.is_sign.ensures (not-true _ c.if-not-is_sign.true)
+returns-then-not-is_sign c = no_sign c.loop-i.invariant (omega arith) c.if-marked.true c.is_sign.ensures c.if-not-is_sign.true
 
 pub loop-i-preserved : goal.loop-i-preserved
 loop-i-preserved c =

@@ -8,12 +8,13 @@ use Prim.Native.Nat.{ℕ, ◌≤◌}
 use Rattle.lister.proofs.Printing.{printed_is, room_is}
 use borrow.Author.Rules.{rules}
 use Rattle.lister.proofs.settings.settings.Goals as goal
+use Rattle.lister.proofs.settings.settings.Goals.{Start}
 
-all-omits : (c : goal.Start) → length c.args.heads.omit ≡ 10
-all-omits c = search rules
+all-omits : (s : Start) → length c.args.heads.omit ≡ 10
+all-omits s = search rules
 
-omits-inside : (c : goal.Start) {n : ℕ} → n ≡ c.args.heads.omits → n ≤ length c.args.heads.omit
-omits-inside c e = omega (arith, all-omits c, c.requires.0)
+omits-inside : (s : Start) {n : ℕ} → n ≡ c.args.heads.omits → n ≤ length c.args.heads.omit
+omits-inside s e = omega (arith, all-omits s, c.requires.0)
 
 pub encode_line-first-requires : goal.encode_line-first-requires
 encode_line-first-requires c = encode_room _ c.requires.1
@@ -22,15 +23,15 @@ pub stopbits_line-second-requires : goal.stopbits_line-second-requires
 stopbits_line-second-requires c = stopbits_room _ c.requires.1 c.encode_line-first.ensures
 
 pub slice_bounds-omit-end : goal.slice_bounds-omit-end
-slice_bounds-omit-end c = omits-inside c c.wide_byte-omits.ensures
+slice_bounds-omit-end c = omits-inside (goal.at.slice_bounds-omit-end c).Start c.wide_byte-omits.ensures
 
 pub slice_bounds-omit_line-end : goal.slice_bounds-omit_line-end
-slice_bounds-omit_line-end c = sym (length-take-le _ _ (omits-inside c c.wide_byte-omits.ensures))
+slice_bounds-omit_line-end c = sym (length-take-le _ _ (omits-inside (goal.at.slice_bounds-omit_line-end c).Start c.wide_byte-omits.ensures))
 
 pub omit_line-third-requires : goal.omit_line-third-requires
 omit_line-third-requires c =
     let h = c.args.heads in (
-      omega (arith, all-omits c, length-take c.wide_byte-omits.result h.omit),
+      omega (arith, all-omits (goal.at.omit_line-third-requires c).Start, length-take c.wide_byte-omits.result h.omit),
       room_is (omit_is h c.wide_byte-omits.ensures)
           (omit_room_lem _ c.requires.1 c.encode_line-first.ensures c.stopbits_line-second.ensures),
     )

@@ -11,9 +11,10 @@ use Rattle.lister.proofs.Printing.{printed_is, room_is}
 use Rattle.lister.proofs.Stating.{word_room, word_printed, signal_few, name_alone}
 use borrow.Author.Rules.{rules}
 use Rattle.lister.proofs.statements.statement.Goals as goal
+use Rattle.lister.proofs.statements.statement.Goals.{After-decode-c}
 
 -- the line of the cell that the word says has room, and is the word's
-module _ (c : goal.After-decode-c) {c : Cell} (is : c.decode-c.result ≡ c) where
+module _ (d : After-decode-c) {c : Cell} (is : c.decode-c.result ≡ c) where
   line_room : FitsListing c.args.at (line_for (statement_of c.args.pool.now c))
   line_room = word_room _ _ c.decode-c.ensures is c.requires
 
@@ -26,84 +27,85 @@ module _ (c : goal.After-decode-c) {c : Cell} (is : c.decode-c.result ≡ c) whe
 
 pub pool_text-requires : goal.pool_text-requires
 unfolding line_for statement_of
-pool_text-requires c = (
-  sent_inside _ c.decode-c.ensures c.in-Send.is,
-  search rules,
-  line_room c c.in-Send.is,
-)
+pool_text-requires c =
+    (
+      sent_inside _ c.decode-c.ensures c.in-Send.is,
+      search rules,
+      line_room (goal.at.pool_text-requires c).After-decode-c c.in-Send.is,
+    )
 
 pub loops-requires : goal.loops-requires
 unfolding line_for statement_of
-loops-requires c = line_room c c.in-Loop.is
+loops-requires c = line_room (goal.at.loops-requires c).After-decode-c c.in-Loop.is
 
 pub wait_time-requires : goal.wait_time-requires
 unfolding line_for statement_of
-wait_time-requires c = line_room c c.in-WaitTime.is
+wait_time-requires c = line_room (goal.at.wait_time-requires c).After-decode-c c.in-WaitTime.is
 
 pub wait_data-requires : goal.wait_data-requires
 unfolding line_for statement_of
-wait_data-requires c = (waited_inside _ c.decode-c.ensures c.in-WaitData.is, line_room c c.in-WaitData.is)
+wait_data-requires c = (waited_inside _ c.decode-c.ensures c.in-WaitData.is, line_room (goal.at.wait_data-requires c).After-decode-c c.in-WaitData.is)
 
 pub wait_byte-requires : goal.wait_byte-requires
 unfolding line_for statement_of
-wait_byte-requires c = line_room c c.in-WaitByte.is
+wait_byte-requires c = line_room (goal.at.wait_byte-requires c).After-decode-c c.in-WaitByte.is
 
 pub wait_clock-requires : goal.wait_clock-requires
 unfolding line_for statement_of
-wait_clock-requires c = line_room c c.in-WaitClock.is
+wait_clock-requires c = line_room (goal.at.wait_clock-requires c).After-decode-c c.in-WaitClock.is
 
 pub wait_signal-requires : goal.wait_signal-requires
 unfolding line_for statement_of
-wait_signal-requires c = (signal_few _ c.decode-c.ensures c.in-WaitSignal.is, line_room c c.in-WaitSignal.is)
+wait_signal-requires c = (signal_few _ c.decode-c.ensures c.in-WaitSignal.is, line_room (goal.at.wait_signal-requires c).After-decode-c c.in-WaitSignal.is)
 
 pub rts-requires : goal.rts-requires
 unfolding line_for statement_of
-rts-requires c = line_room c c.in-Rts.is
+rts-requires c = line_room (goal.at.rts-requires c).After-decode-c c.in-Rts.is
 
 pub log-requires : goal.log-requires
 unfolding line_for statement_of
-log-requires c = (logged_inside _ c.decode-c.ensures c.in-Log.is, line_room c c.in-Log.is)
+log-requires c = (logged_inside _ c.decode-c.ensures c.in-Log.is, line_room (goal.at.log-requires c).After-decode-c c.in-Log.is)
 
 pub bare_name-requires : goal.bare_name-requires
-bare_name-requires c = room_is (name_alone _ _ c.in_default.keys10) (line_room c refl)
+bare_name-requires c = room_is (name_alone _ _ c.in_default.keys10) (line_room (goal.at.bare_name-requires c).After-decode-c refl)
 
 pub returns-in-Send : goal.returns-in-Send
 unfolding line_for statement_of
-returns-in-Send c = line-printed c c.in-Send.is c.pool_text.ensures
+returns-in-Send c = line-printed (goal.at.returns-in-Send c).After-decode-c c.in-Send.is c.pool_text.ensures
 
 pub returns-in-Loop : goal.returns-in-Loop
 unfolding line_for statement_of
-returns-in-Loop c = line-printed c c.in-Loop.is c.loops.ensures
+returns-in-Loop c = line-printed (goal.at.returns-in-Loop c).After-decode-c c.in-Loop.is c.loops.ensures
 
 pub returns-in-WaitTime : goal.returns-in-WaitTime
 unfolding line_for statement_of
-returns-in-WaitTime c = line-printed c c.in-WaitTime.is c.wait_time.ensures
+returns-in-WaitTime c = line-printed (goal.at.returns-in-WaitTime c).After-decode-c c.in-WaitTime.is c.wait_time.ensures
 
 pub returns-in-WaitData : goal.returns-in-WaitData
 unfolding line_for statement_of
-returns-in-WaitData c = line-printed c c.in-WaitData.is c.wait_data.ensures
+returns-in-WaitData c = line-printed (goal.at.returns-in-WaitData c).After-decode-c c.in-WaitData.is c.wait_data.ensures
 
 pub returns-in-WaitByte : goal.returns-in-WaitByte
 unfolding line_for statement_of
-returns-in-WaitByte c = line-printed c c.in-WaitByte.is c.wait_byte.ensures
+returns-in-WaitByte c = line-printed (goal.at.returns-in-WaitByte c).After-decode-c c.in-WaitByte.is c.wait_byte.ensures
 
 pub returns-in-WaitClock : goal.returns-in-WaitClock
 unfolding line_for statement_of
-returns-in-WaitClock c = line-printed c c.in-WaitClock.is c.wait_clock.ensures
+returns-in-WaitClock c = line-printed (goal.at.returns-in-WaitClock c).After-decode-c c.in-WaitClock.is c.wait_clock.ensures
 
 pub returns-in-WaitSignal : goal.returns-in-WaitSignal
 unfolding line_for statement_of
-returns-in-WaitSignal c = line-printed c c.in-WaitSignal.is c.wait_signal.ensures
+returns-in-WaitSignal c = line-printed (goal.at.returns-in-WaitSignal c).After-decode-c c.in-WaitSignal.is c.wait_signal.ensures
 
 pub returns-in-Rts : goal.returns-in-Rts
 unfolding line_for statement_of
-returns-in-Rts c = line-printed c c.in-Rts.is c.rts.ensures
+returns-in-Rts c = line-printed (goal.at.returns-in-Rts c).After-decode-c c.in-Rts.is c.rts.ensures
 
 pub returns-in-Log : goal.returns-in-Log
 unfolding line_for statement_of
-returns-in-Log c = line-printed c c.in-Log.is c.log.ensures
+returns-in-Log c = line-printed (goal.at.returns-in-Log c).After-decode-c c.in-Log.is c.log.ensures
 
 pub returns-in_default : goal.returns-in_default
 returns-in_default c =
-    line-printed c refl
+    line-printed (goal.at.returns-in_default c).After-decode-c refl
     (printed_is (name_alone _ _ c.in_default.keys10) c.bare_name.ensures)

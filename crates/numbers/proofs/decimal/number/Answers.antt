@@ -8,18 +8,19 @@ use lib.ListN.{length}
 use Rattle.numbers.specs.Number.{digits_ended, number_at}
 use Rattle.numbers.proofs.Reading.{Reading, begun, at_end_lem, stopped, too_long, too_large, taken}
 use Rattle.numbers.proofs.decimal.number.Goals as goal
+use Rattle.numbers.proofs.decimal.number.Goals.{Left-loop-i, else-loop-i-test, then-loop-i-test+then-d-ge10}
 
 -- where the loop has been left, at the end of the text or at a byte that is no digit
-left : (c : goal.Left-loop-i)
-    → let at_entry_lem = c in
+left : (c : Left-loop-i)
+    → let at_entry_lem = c.before.before.before in
     number_at at_entry_lem.args.most at_entry_lem.args.limit at_entry_lem.args.s.now at_entry_lem.args.at
     ≡ digits_ended c.loop-i.n c.loop-i.v c.loop-i.i
 left c =
     let w = c.loop-i.invariant.1 in
-    ⊎_elim
-    (λ a. at_end_lem w a.left)
-    (λ a. stopped w a.0.taken (a.3.ensures ∙ a.2.ensures) a.4.taken)
-    c.loop-i-test.branch
+    elim c.loop-i-test.branch [
+      else-loop-i-test a ↦ at_end_lem w a.loop-i-test.false
+    | then-loop-i-test+then-d-ge10 a ↦ stopped w a.loop-i-test.true (a.wide-d.ensures ∙ a.digit.ensures) a.if-d-ge10.true
+    ]
 
 pub loop-i-init : goal.loop-i-init
 loop-i-init c = (refl, begun)
@@ -44,8 +45,8 @@ loop-i-preserved c =
 
 pub returns-then-n-gt0 : goal.returns-then-n-gt0
 unfolding digits_ended
-returns-then-n-gt0 c = sym (left c ∙ simp (lt-ltb _ _ c.if-n-gt0.true))
+returns-then-n-gt0 c = sym (left (goal.at.returns-then-n-gt0 c).Left-loop-i ∙ simp (lt-ltb _ _ c.if-n-gt0.true))
 
 pub returns : goal.returns
 unfolding digits_ended
-returns c = sym (left c ∙ simp (le-ltb _ _ c.if-n-gt0.false))
+returns c = sym (left (goal.at.returns c).Left-loop-i ∙ simp (le-ltb _ _ c.if-n-gt0.false))
