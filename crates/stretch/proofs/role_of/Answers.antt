@@ -35,4 +35,4 @@ unfolding cell_mark mark_of statement_of
 returns-in-WaitSignal c = search rules
 
 pub returns-in_default : goal.returns-in_default
-returns-in_default c = other_plain c.args.c c.in_default.keys8
+returns-in_default c = other_plain c.args.c c.in_default.in_default-own.keys8

@@ -37,5 +37,5 @@ returns-in-Unknown c = word_not _ c.decode-c.ensures c.in-Unknown.is _ _ refl
 
 pub returns-in_default : goal.returns-in_default
 returns-in_default c =
-    let o = dataless _ _ c.decode-c.result c.in_default.keys6 in
+    let o = dataless _ _ c.decode-c.result c.in_default.in_default-own.keys6 in
     word_at _ c.decode-c.ensures refl _ _ o.fits o.none

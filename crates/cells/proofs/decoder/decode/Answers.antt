@@ -68,7 +68,7 @@ returns-in-14 c = kind_is c.args.w 14 c.in-14.is c.bare-in-14.ensures
 pub returns-in_default : goal.returns-in_default
 unfolding decoded cell_of
 returns-in_default c =
-    let rest = c.in_default.rest in
+    let rest = c.in_default.in_default-own.rest in
     rw (
       ne_eqb _ 0 rest.0.0.0.0.0.0.0.0.0.0.0.0.0.0.1,
       ne_eqb _ 1 rest.0.0.0.0.0.0.0.0.0.0.0.0.0.1,

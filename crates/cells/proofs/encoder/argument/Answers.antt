@@ -21,4 +21,4 @@ pub returns-in-Log : goal.returns-in-Log
 returns-in-Log c = c.span_number-in-Log.ensures ∙ sym (ap argument_of c.in-Log.is)
 
 pub returns-in_default : goal.returns-in_default
-returns-in_default c = no_argument c.args.c c.in_default.keys10
+returns-in_default c = no_argument c.args.c c.in_default.in_default-own.keys10

@@ -37,4 +37,4 @@ unfolding column_in
 returns-in-StretchTooLong c = search rules
 
 pub returns-in_default : goal.returns-in_default
-returns-in_default c = other_first _ c.args.fault c.in_default.keys5
+returns-in_default c = other_first _ c.args.fault c.in_default.in_default-own.keys5

@@ -4,4 +4,4 @@ use Rattle.compiler.proofs.Asking.{other_counts}
 use Rattle.compiler.proofs.drafting.is_comment.Goals as goal
 
 pub returns-in_default : goal.returns-in_default
-returns-in_default c = other_counts c.args.line c.in_default.keys2
+returns-in_default c = other_counts c.args.line c.in_default.in_default-own.keys2

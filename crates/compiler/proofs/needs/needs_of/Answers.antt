@@ -21,4 +21,4 @@ pub returns-in-Log : goal.returns-in-Log
 returns-in-Log c = sym (ap needs_of c.in-Log.is)
 
 pub returns-in_default : goal.returns-in_default
-returns-in_default c = other_plain c.args.cell c.in_default.keys6
+returns-in_default c = other_plain c.args.cell c.in_default.in_default-own.keys6

@@ -15,4 +15,4 @@ pub returns-in-Logging : goal.returns-in-Logging
 returns-in-Logging c = ap (placed_at _ _) (sym c.in-Logging.is)
 
 pub returns-in_default : goal.returns-in_default
-returns-in_default c = other_same _ _ c.args.asked c.in_default.keys4
+returns-in_default c = other_same _ _ c.args.asked c.in_default.in_default-own.keys4

@@ -12,4 +12,4 @@ pub returns-in-Closing : goal.returns-in-Closing
 returns-in-Closing c = rw c.in-Closing.is (c.closing.ensures _)
 
 pub returns-in_default : goal.returns-in_default
-returns-in_default c = rw (other_stays c.args.asked c.in_default.keys3) (λ ends settings. stays_on _ _ (handed _ ends settings c.going.ensures))
+returns-in_default c = rw (other_stays c.args.asked c.in_default.in_default-own.keys3) (λ ends settings. stays_on _ _ (handed _ ends settings c.going.ensures))

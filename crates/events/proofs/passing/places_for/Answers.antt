@@ -14,4 +14,4 @@ returns-in-Data c =
 pub returns-in_default : goal.returns-in_default
 returns-in_default c =
     let a = c.args in
-    places_none a.w a.left c.in_default.keys2
+    places_none a.w a.left c.in_default.in_default-own.keys2

@@ -29,4 +29,4 @@ returns-in-Data c =
 pub returns-in_default : goal.returns-in_default
 returns-in_default c =
     let a = c.args in
-    others_stay a.pool.now a.b a.place a.end a.w c.in_default.keys3
+    others_stay a.pool.now a.b a.place a.end a.w c.in_default.in_default-own.keys3

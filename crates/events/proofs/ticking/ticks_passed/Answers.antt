@@ -30,4 +30,4 @@ returns-else-count-last_tick c =
 pub returns-in_default : goal.returns-in_default
 returns-in_default c =
     let a = c.args in
-    sym (stays_through (tick_on a.place a.end) ready_wait a.w (λ x. sym (ticks_past a.place a.end a.w c.in_default.keys2)) (ticks_of a.count))
+    sym (stays_through (tick_on a.place a.end) ready_wait a.w (λ x. sym (ticks_past a.place a.end a.w c.in_default.in_default-own.keys2)) (ticks_of a.count))

@@ -33,5 +33,5 @@ returns-else-place-end c =
 pub returns-in_default : goal.returns-in_default
 returns-in_default c =
     let a = c.args in
-    sym (stays_reach (tick_on a.place a.end) ready_wait a.w (λ x. sym (ticks_past a.place a.end a.w c.in_default.keys2)) c.requires (ticks_of a.most)
+    sym (stays_reach (tick_on a.place a.end) ready_wait a.w (λ x. sym (ticks_past a.place a.end a.w c.in_default.in_default-own.keys2)) c.requires (ticks_of a.most)
     ∙ length-replicate {A = ℕ} a.most 0)

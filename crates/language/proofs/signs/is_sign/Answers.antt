@@ -45,4 +45,4 @@ unfolding is_sign
 returns-in-110 c = sign_is 110 c.in-110.is refl
 
 pub returns-in_default : goal.returns-in_default
-returns-in_default c = no_sign c.args.b c.in_default.rest
+returns-in_default c = no_sign c.args.b c.in_default.in_default-own.rest

@@ -4,4 +4,4 @@ use borrow.Author.Rules.{rules}
 use Rattle.line_column.proofs.arguments.no_fault.Goals as goal
 
 pub returns-in_default : goal.returns-in_default
-returns-in_default c = other_right c.args.line c.in_default.keys2
+returns-in_default c = other_right c.args.line c.in_default.in_default-own.keys2

@@ -42,4 +42,4 @@ pub returns-in-102 : goal.returns-in-102
 returns-in-102 c = tells_as (second _ _ 102 c.in-102.is) c.setting.ensures
 
 pub returns-in_default : goal.returns-in_default
-returns-in_default c = tells_as (no_such_name _ _ c.in_default.rest) (no_name _)
+returns-in_default c = tells_as (no_such_name _ _ c.in_default.in_default-own.rest) (no_name _)

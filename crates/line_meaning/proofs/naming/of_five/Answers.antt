@@ -57,4 +57,4 @@ returns-in-52 c =
 
 pub returns-in_default : goal.returns-in_default
 unfolding line_from
-returns-in_default c = ap line_from (sym (none_of_five _ _ c.in_default.rest))
+returns-in_default c = ap line_from (sym (none_of_five _ _ c.in_default.in_default-own.rest))

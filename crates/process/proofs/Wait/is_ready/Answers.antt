@@ -4,4 +4,4 @@ use borrow.Author.Rules.{rules}
 use Rattle.process.proofs.Wait.is_ready.Goals as goal
 
 pub returns-in_default : goal.returns-in_default
-returns-in_default c = not_ready c.args.self c.in_default.keys2
+returns-in_default c = not_ready c.args.self c.in_default.in_default-own.keys2

@@ -20,4 +20,4 @@ returns-else-sets_level c =
     (sym c.sets_level.ensures ∙ c.if-sets_level.false))
 
 pub returns-in_default : goal.returns-in_default
-returns-in_default c = let a = c.args in levels_past a.place a.end a.e a.self c.in_default.keys2
+returns-in_default c = let a = c.args in levels_past a.place a.end a.e a.self c.in_default.in_default-own.keys2

@@ -20,4 +20,4 @@ returns-else-clock_matches c =
     a.r _ (sym c.clock_matches.ensures ∙ c.if-clock_matches.false))
 
 pub returns-in_default : goal.returns-in_default
-returns-in_default c = let a = c.args in reads_past a.place a.end a.r a.self c.in_default.keys2
+returns-in_default c = let a = c.args in reads_past a.place a.end a.r a.self c.in_default.in_default-own.keys2

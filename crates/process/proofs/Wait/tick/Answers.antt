@@ -21,4 +21,4 @@ returns-else-n-le1 c =
     c.in-Ticks.n (lt-leb c.in-Ticks.n 1 c.if-n-le1.false))
 
 pub returns-in_default : goal.returns-in_default
-returns-in_default c = let a = c.args in ticks_past a.place a.end a.self c.in_default.keys2
+returns-in_default c = let a = c.args in ticks_past a.place a.end a.self c.in_default.in_default-own.keys2

@@ -28,4 +28,4 @@ pub returns-in_default : goal.returns-in_default
 returns-in_default c =
     let a = c.args in
     other_performs a.pool.now a.r a.at a.counts.now a.out.now
-    a.cell c.in_default.keys3 c.said-in_default.ensures
+    a.cell c.in_default.in_default-own.keys3 c.said-in_default.ensures

@@ -19,7 +19,7 @@ loop-i-preserved c =
 
 pub returns-in_default : goal.returns-in_default
 returns-in_default c =
-    join_other c.loop-i.invariant (omega arith) (omega arith) c.decode.ensures c.in_default.keys2
+    join_other c.loop-i.invariant (omega arith) (omega arith) c.decode.ensures c.in_default.in_default-own.keys2
     c.told-in_default.ensures
 
 pub told-requires-2 : goal.told-requires-2

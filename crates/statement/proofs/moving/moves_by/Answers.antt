@@ -66,4 +66,4 @@ returns-in-WaitSignal c =
 pub returns-in_default : goal.returns-in_default
 returns-in_default c =
     let a = c.args in
-    c.passes_on.ensures ∙ other_passes a.p a.cells.now a.levels a.cell c.in_default.keys10
+    c.passes_on.ensures ∙ other_passes a.p a.cells.now a.levels a.cell c.in_default.in_default-own.keys10

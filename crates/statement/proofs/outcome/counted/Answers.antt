@@ -10,4 +10,4 @@ unfolding counted_by next_count
 returns-in-Log c = c.wrapping_add_u32.ensures ∙ sym (ap (counted_by c.args.n) c.in-Log.is)
 
 pub returns-in_default : goal.returns-in_default
-returns-in_default c = other_stands c.args.n c.args.cell c.in_default.keys2
+returns-in_default c = other_stands c.args.n c.args.cell c.in_default.in_default-own.keys2

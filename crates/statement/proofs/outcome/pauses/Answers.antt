@@ -13,4 +13,4 @@ unfolding paused_by
 returns-in-Resume c = search rules
 
 pub returns-in_default : goal.returns-in_default
-returns-in_default c = other_lasts c.args.paused c.args.cell c.in_default.keys3
+returns-in_default c = other_lasts c.args.paused c.args.cell c.in_default.in_default-own.keys3

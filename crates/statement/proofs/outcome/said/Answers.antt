@@ -29,4 +29,4 @@ unfolding outcome_of
 returns-in-Resume c = search rules
 
 pub returns-in_default : goal.returns-in_default
-returns-in_default c = other_plain c.args.n c.args.cell c.in_default.keys7
+returns-in_default c = other_plain c.args.n c.args.cell c.in_default.in_default-own.keys7
