@@ -9,7 +9,7 @@ pub span_of-requires : goal.span_of-requires
 span_of-requires c = within_pool 0 126 c.args.argument (sym c.span_right.ensures ∙ c.if-span_right.true)
 
 pub returns-then-span_right : goal.returns-then-span_right
-returns-then-span_right c = rw (sym c.span_right.ensures ∙ c.if-span_right.true) (ap Send c.Span-of.ensures)
+returns-then-span_right c = rw (sym c.span_right.ensures ∙ c.if-span_right.true) (ap Send c.span_of.ensures)
 
 pub returns-else-span_right : goal.returns-else-span_right
 returns-else-span_right c = rw (sym c.span_right.ensures ∙ c.if-span_right.false)

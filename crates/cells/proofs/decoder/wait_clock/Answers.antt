@@ -1,3 +1,4 @@
+
 use mathlib.Core.Path.{sym, ◌∙◌}
 use borrow.Author.Rules.{rules}
 use Rattle.cells.proofs.decoder.wait_clock.Goals as goal

@@ -9,7 +9,7 @@ pub span_of-requires : goal.span_of-requires
 span_of-requires c = within_pool 1 115 c.args.argument (sym c.span_right.ensures ∙ c.if-span_right.true)
 
 pub returns-then-span_right : goal.returns-then-span_right
-returns-then-span_right c = rw (sym c.span_right.ensures ∙ c.if-span_right.true) (ap WaitData c.Span-of.ensures)
+returns-then-span_right c = rw (sym c.span_right.ensures ∙ c.if-span_right.true) (ap WaitData c.span_of.ensures)
 
 pub returns-else-span_right : goal.returns-else-span_right
 returns-else-span_right c = rw (sym c.span_right.ensures ∙ c.if-span_right.false)

@@ -23,7 +23,7 @@ returns-then-first-eq109 c =
 
 pub returns-then-first-eq115 : goal.returns-then-first-eq115
 returns-then-first-eq115 c =
-    c.from_Second.ensures ∙ ap clock_read
+    c.from_second.ensures ∙ ap clock_read
     (at_second _ c.if-argument-eq0.false c.if-first-eq68.false c.if-first-eq104.false c.if-first-eq109.false c.if-first-eq115.true)
 
 pub returns : goal.returns

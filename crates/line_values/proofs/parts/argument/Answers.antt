@@ -10,7 +10,7 @@ pub slice_bounds-tail-start : goal.slice_bounds-tail-start
 slice_bounds-tail-start c = let h = from_within _ c.after_blanks-from.ensures in search rules
 
 pub slice_bounds-result-end : goal.slice_bounds-result-end
-slice_bounds-result-end c = end_within _ c.trimmed-end.ensures
+slice_bounds-result-end c = end_within _ c.trimmed_end-end.ensures
 
 pub returns : goal.returns
-returns c = argument_is _ c.after-blanks.ensures c.trimmed-end.ensures
+returns c = argument_is _ c.after_blanks-from.ensures c.trimmed_end-end.ensures

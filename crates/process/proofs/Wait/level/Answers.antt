@@ -4,6 +4,7 @@ use Rattle.process.specs.Waiting.{level_wait}
 use Rattle.process.proofs.WaitCases.{level_ends, level_stays}
 use Rattle.process.proofs.Others.{levels_past}
 use borrow.Author.Rules.{rules}
+use borrow.Enum.Refused.{opened}
 use Rattle.process.proofs.Wait.level.Goals as goal
 
 pub returns-then-sets_level : goal.returns-then-sets_level
@@ -20,4 +21,4 @@ returns-else-sets_level c =
     (sym c.sets_level.ensures ∙ c.if-sets_level.false))
 
 pub returns-in_default : goal.returns-in_default
-returns-in_default c = let a = c.args in levels_past a.place a.end a.e a.self c.in_default.in_default-own.keys2
+returns-in_default c = let a = c.args in levels_past a.place a.end a.e a.self (opened c.in_default.in_default-own.keys2)

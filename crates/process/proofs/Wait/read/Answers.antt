@@ -4,6 +4,7 @@ use Rattle.process.specs.Waiting.{reading_wait}
 use Rattle.process.proofs.WaitCases.{clock_ends, clock_stays}
 use Rattle.process.proofs.Others.{reads_past}
 use borrow.Author.Rules.{rules}
+use borrow.Enum.Refused.{opened}
 use Rattle.process.proofs.Wait.read.Goals as goal
 
 pub returns-then-clock_matches : goal.returns-then-clock_matches
@@ -20,4 +21,4 @@ returns-else-clock_matches c =
     a.r _ (sym c.clock_matches.ensures ∙ c.if-clock_matches.false))
 
 pub returns-in_default : goal.returns-in_default
-returns-in_default c = let a = c.args in reads_past a.place a.end a.r a.self c.in_default.in_default-own.keys2
+returns-in_default c = let a = c.args in reads_past a.place a.end a.r a.self (opened c.in_default.in_default-own.keys2)

@@ -5,6 +5,7 @@ use Rattle.process.proofs.WaitCases.{ticks_end, ticks_on_lem}
 use Rattle.process.proofs.Others.{ticks_past}
 use borrow.Author.Tests.{le-leb, lt-leb}
 use borrow.Author.Rules.{rules}
+use borrow.Enum.Refused.{opened}
 use Rattle.process.proofs.Wait.tick.Goals as goal
 
 pub returns-then-n-le1 : goal.returns-then-n-le1
@@ -21,4 +22,4 @@ returns-else-n-le1 c =
     c.in-Ticks.n (lt-leb c.in-Ticks.n 1 c.if-n-le1.false))
 
 pub returns-in_default : goal.returns-in_default
-returns-in_default c = let a = c.args in ticks_past a.place a.end a.self c.in_default.in_default-own.keys2
+returns-in_default c = let a = c.args in ticks_past a.place a.end a.self (opened c.in_default.in_default-own.keys2)
