@@ -12,25 +12,25 @@ table s = record { cells = s.args.cells.now; pool = s.args.pool.now; heads = s.a
 
 pub listing_fits-requires : goal.listing_fits-requires
 listing_fits-requires c =
-    let t = table c in
+    let t = table (goal.at.listing_fits-requires c).Start in
     let right = sym c.is_accepted.ensures ∙ c.if-is_accepted.true in
     (omits_few t right, listing_room t right)
 
 pub whole-count-requires : goal.whole-count-requires
 whole-count-requires c =
-    let t = table c in
+    let t = table (goal.at.whole-count-requires c).Start in
     let right = sym c.is_accepted.ensures ∙ c.if-is_accepted.true in
     (omits_few t right, listing_room t right)
 
 pub returns-then-listing_fits : goal.returns-then-listing_fits
 returns-then-listing_fits c =
-    wrote (table c) _ c.is_accepted.ensures c.if-is_accepted.true
+    wrote (table (goal.at.returns-then-listing_fits c).Start) _ c.is_accepted.ensures c.if-is_accepted.true
     c.listing_fits.ensures c.if-listing_fits.true c.whole-count.ensures
 
 pub returns-then-is_accepted : goal.returns-then-is_accepted
 returns-then-is_accepted c =
-    no_room (table c) _ c.is_accepted.ensures c.if-is_accepted.true
+    no_room (table (goal.at.returns-then-is_accepted c).Start) _ c.is_accepted.ensures c.if-is_accepted.true
     c.listing_fits.ensures c.if-listing_fits.false
 
 pub returns : goal.returns
-returns c = bad_table (table c) _ c.is_accepted.ensures c.if-is_accepted.false
+returns c = bad_table (table (goal.at.returns c).Start) _ c.is_accepted.ensures c.if-is_accepted.false

@@ -15,7 +15,7 @@ slice_bounds-put_bytes-end c =
 pub returns-then-room-bytes : goal.returns-then-room-bytes
 returns-then-room-bytes c =
     let a = c.args in
-    cut_some a.bytes.now a.out.now a.at c.requires.0 c.if1.true
+    cut_some a.bytes.now a.out.now a.at c.requires.0 c.if-room-bytes.true
     c.put_bytes.ensures.1
 
 pub returns : goal.returns

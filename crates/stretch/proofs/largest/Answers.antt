@@ -10,7 +10,7 @@ use Rattle.stretch.proofs.largest.Goals as goal
 
 pub measure_all-requires : goal.measure_all-requires
 measure_all-requires c =
-    let e : 8 ≡ length c.args.heads.ends = slice_bounds-measure_all-end c in
+    let e : 8 ≡ length c.args.heads.ends = slice_bounds-measure_all-end (goal.at.measure_all-requires c).After-ends-2-1 in
     omega arith
 
 pub returns : goal.returns

@@ -7,6 +7,7 @@ use Rattle.figures.proofs.Calls.{free}
 use Rattle.stretch.specs.Marks.{cell_mark}
 use Rattle.stretch.proofs.Marking.{mark_loop, mark_time, mark_byte}
 use Rattle.stretch.proofs.Others.{other_plain}
+use borrow.Enum.Refused.{opened}
 use Rattle.stretch.proofs.role_of.Goals as goal
 
 pub returns-in-Loop : goal.returns-in-Loop
@@ -35,4 +36,4 @@ unfolding cell_mark mark_of statement_of
 returns-in-WaitSignal c = search rules
 
 pub returns-in_default : goal.returns-in_default
-returns-in_default c = other_plain c.args.c c.in_default.in_default-own.keys8
+returns-in_default c = other_plain c.args.c (opened c.in_default.in_default-own.keys8)

@@ -4,6 +4,7 @@ use Rattle.accepted.specs.Inside.Cells.{cell_fits, bytes_of_cell}
 use Rattle.accepted.proofs.CellsFit.{word_not, word_at, word_data, sent_inside, waited_inside, logged_inside}
 use Rattle.accepted.proofs.Others.{dataless}
 use borrow.Author.Rules.{rules}
+use borrow.Enum.Refused.{opened}
 use Rattle.accepted.proofs.cells_fit.after_word.Goals as goal
 
 pub after_data-requires : goal.after_data-requires
@@ -37,5 +38,5 @@ returns-in-Unknown c = word_not _ c.decode-c.ensures c.in-Unknown.is _ _ refl
 
 pub returns-in_default : goal.returns-in_default
 returns-in_default c =
-    let o = dataless _ _ c.decode-c.result c.in_default.in_default-own.keys6 in
+    let o = dataless _ _ c.decode-c.result (opened c.in_default.in_default-own.keys6) in
     word_at _ c.decode-c.ensures refl _ _ o.fits o.none

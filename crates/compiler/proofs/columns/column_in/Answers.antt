@@ -6,6 +6,7 @@ use Rattle.language.specs.Limits.{line_limit}
 use Rattle.language.specs.Column.{column_of, column_in}
 use Rattle.language.proofs.Inside.{line_inside}
 use Rattle.compiler.proofs.Asking.{other_first}
+use borrow.Enum.Refused.{opened}
 use Rattle.compiler.proofs.columns.column_in.Goals as goal
 use Rattle.compiler.proofs.columns.column_in.Goals.{After-line_taken}
 
@@ -37,4 +38,4 @@ unfolding column_in
 returns-in-StretchTooLong c = search rules
 
 pub returns-in_default : goal.returns-in_default
-returns-in_default c = other_first _ c.args.fault c.in_default.in_default-own.keys5
+returns-in_default c = other_first _ c.args.fault (opened c.in_default.in_default-own.keys5)

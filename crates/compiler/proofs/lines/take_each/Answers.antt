@@ -79,11 +79,10 @@ slice_bounds-line-end c =
     omega arith
 
 pub take_line-taken-requires : goal.take_line-taken-requires
-take_line-taken-requires c =
-    (
-      ready c.lines.work c.lines.loops c.lines.ends c.lines.settings (lined (goal.at.take_line-taken-requires c).After-next_feed-end).folding,
-      in_line_lem _ (lined (goal.at.take_line-taken-requires c).After-next_feed-end) (bytes (goal.at.take_line-taken-requires c).After-next_feed-end) c.without_cr-behind.ensures.2,
-    )
+take_line-taken-requires c = (
+  ready c.lines.work c.lines.loops c.lines.ends c.lines.settings (lined (goal.at.take_line-taken-requires c).After-next_feed-end).folding,
+  in_line_lem _ (lined (goal.at.take_line-taken-requires c).After-next_feed-end) (bytes (goal.at.take_line-taken-requires c).After-next_feed-end) c.without_cr-behind.ensures.2,
+)
 
 pub overflow_add-row : goal.overflow_add-row
 overflow_add-row c =

@@ -14,15 +14,11 @@ use Rattle.compiler.proofs.lines.take_each.Given as goal
 abbrev pub invariant-loop-lent : goal.invariant-loop-lent
 invariant-loop-lent l = Scanning l.text (work_of l.work l.loops l.ends l.settings) l.row l.start l.cells l.pool l.clear
 
-
 abbrev pub decreases-loop-lent : goal.decreases-loop-lent
 decreases-loop-lent l = length l.text - l.clear
-
 
 abbrev pub invariant-lines : goal.invariant-lines
 invariant-lines l = Folding l.text (work_of l.work l.loops l.ends l.settings) l.row l.start l.cells l.pool × (l.step ≡ Going)
 
-
 abbrev pub decreases-lines : goal.decreases-lines
 decreases-lines l = length l.text - l.start
-

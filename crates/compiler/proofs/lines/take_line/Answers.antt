@@ -22,12 +22,12 @@ returns-then-counted-ge-LINES c =
 
 pub take-requires : goal.take-requires
 take-requires c = (
-  counted_within c.requires.0 c.if3.false,
-  said_fits _ c.if1.false c.read-line.ensures.0 c.requires.1,
+  counted_within c.requires.0 c.if-counted-ge-LINES.false,
+  said_fits _ c.if-line-gt-LINE.false c.read_line-said.ensures.0 c.requires.1,
 )
 
 pub returns : goal.returns
 returns c =
-    counts_on _ c.if1.false c.read-line.ensures.0 _ _ _ _ _ c.requires.1 _ _ _ _
-    c.read-line.ensures.1 (sym c.is-comment.ensures ∙ c.if2.false)
-    c.if3.false c.take.ensures
+    counts_on _ c.if-line-gt-LINE.false c.read_line-said.ensures.0 _ _ _ _ _ c.requires.1 _ _ _ _
+    c.read_line-said.ensures.1 (sym c.is_comment.ensures ∙ c.if-is_comment.false)
+    c.if-counted-ge-LINES.false c.take.ensures

@@ -14,10 +14,10 @@ cut : (s : List ℕ) → text_limit < length s → length (take text_limit s) �
 cut s h = length-take-le text_limit s (omega arith)
 
 pub slice_bounds-take_lines-end : goal.slice_bounds-take_lines-end
-slice_bounds-take_lines-end c = sym (cut c.args.text.now c.if1.true)
+slice_bounds-take_lines-end c = sym (cut c.args.text.now c.if-text-gt-TEXT.true)
 
 pub take_lines-requires : goal.take_lines-requires
-take_lines-requires c = omega (arith, cut c.args.text.now c.if1.true)
+take_lines-requires c = omega (arith, cut c.args.text.now c.if-text-gt-TEXT.true)
 
 pub returns : goal.returns
 returns c = c.take_lines-2.ensures ∙ ap compiled (sym (take_all text_limit _ c.if-text-gt-TEXT.false))

@@ -3,6 +3,7 @@ use mathlib.Core.Path.{sym, ap}
 use Rattle.compiler.specs.Inside.Needs.{needs_of}
 use Rattle.compiler.proofs.Asking.{other_plain}
 use borrow.Author.Rules.{rules}
+use borrow.Enum.Refused.{opened}
 use Rattle.compiler.proofs.needs.needs_of.Goals as goal
 
 pub returns-in-Send : goal.returns-in-Send
@@ -21,4 +22,4 @@ pub returns-in-Log : goal.returns-in-Log
 returns-in-Log c = sym (ap needs_of c.in-Log.is)
 
 pub returns-in_default : goal.returns-in_default
-returns-in_default c = other_plain c.args.cell c.in_default.in_default-own.keys6
+returns-in_default c = other_plain c.args.cell (opened c.in_default.in_default-own.keys6)

@@ -17,7 +17,7 @@ returns-then-kept-want c = (c.through_links.ensures, c.requires.4)
 pub through_links-requires-2 : goal.through_links-requires-2
 through_links-requires-2 c =
     let p = c.requires in
-    (p.0, search rules, record { at = λ j some h l. c.make-links.ensures.0.at j some (p.3 j h l) })
+    (p.0, search rules, record { at = λ j some h l. c.make_links.ensures.0.at j some (p.3 j h l) })
 
 pub returns : goal.returns
-returns c = (c.through_links-2.ensures, c.make-links.ensures.1)
+returns c = (c.through_links-2.ensures, c.make_links.ensures.1)

@@ -17,24 +17,24 @@ loop-i-init c = (omega arith, omega (arith, c.wide-i.ensures, c.slice_known-2-1.
 
 pub followed-n-requires : goal.followed-n-requires
 followed-n-requires c =
-    let l = c.loop in
-    let less = linked_below l.invariant.3 l.invariant.0 (omega arith) c.wide2.ensures in
+    let l = c.loop-i in
+    let less = linked_below l.invariant.3 l.invariant.0 (omega arith) c.wide-j.ensures in
     (omega arith, omega arith, linked_fewer l.invariant.3 (omega arith))
 
 pub overflow_cast-links : goal.overflow_cast-links
 overflow_cast-links c =
-    let l = c.loop in
-    let less = linked_below l.invariant.3 l.invariant.0 (omega arith) c.wide2.ensures in
+    let l = c.loop-i in
+    let less = linked_below l.invariant.3 l.invariant.0 (omega arith) c.wide-j.ensures in
     let most = advance_le _ _ _ (omega arith) c.followed-n.ensures in
     omega arith
 
 pub loop-i-preserved : goal.loop-i-preserved
 loop-i-preserved c =
-    let l = c.loop in (
+    let l = c.loop-i in (
       omega arith,
       omega arith,
       search rules,
-      linked_more l.invariant.3 l.invariant.0 (omega arith) (omega arith) c.wide2.ensures c.followed-n.ensures,
+      linked_more l.invariant.3 l.invariant.0 (omega arith) (omega arith) c.wide-j.ensures c.followed-n.ensures,
     )
 
 pub returns : goal.returns

@@ -17,7 +17,5 @@ abbrev pub invariant-loop-i : goal.invariant-loop-i
 invariant-loop-i l =
     (l.i ≤ 8) × Going l.pool l.run l.ps l.i l.next l.n l.again × (l.from ≡ begins (length l.links) 0 l.ps l.i) × (l.from ≤ length l.links) × (length l.links ≡ length l.initial.links) × KeptFrom l.pool l.links 0 l.ps
 
-
 abbrev pub decreases-loop-i : goal.decreases-loop-i
 decreases-loop-i l = 8 - l.i
-

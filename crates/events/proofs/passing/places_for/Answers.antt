@@ -4,6 +4,7 @@ use borrow.Author.Rules.{rules}
 use Rattle.process.specs.declared.Wait.{Wait}
 use Rattle.events.specs.Inside.Kept.{places_for}
 use Rattle.events.proofs.Kept.{places_none}
+use borrow.Enum.Refused.{opened}
 use Rattle.events.proofs.passing.places_for.Goals as goal
 
 pub returns-in-Data : goal.returns-in-Data
@@ -14,4 +15,4 @@ returns-in-Data c =
 pub returns-in_default : goal.returns-in_default
 returns-in_default c =
     let a = c.args in
-    places_none a.w a.left c.in_default.in_default-own.keys2
+    places_none a.w a.left (opened c.in_default.in_default-own.keys2)

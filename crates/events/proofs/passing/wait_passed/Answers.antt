@@ -7,6 +7,7 @@ use Rattle.events.proofs.DataCases.{others_stay}
 use Rattle.events.proofs.DataPassed.{passed_all}
 use Rattle.events.proofs.Reach.{stays_reach, stays_through}
 use borrow.Author.Rules.{rules}
+use borrow.Enum.Refused.{opened}
 use Rattle.events.proofs.passing.wait_passed.Goals as goal
 
 pub data_passed-requires : goal.data_passed-requires
@@ -29,7 +30,7 @@ returns-in-Data c =
 pub returns-in_default : goal.returns-in_default
 returns-in_default c =
     let a = c.args in
-    let stays : (x : ℕ) → byte_on a.pool.now a.place a.end x a.w ≡ a.w = λ x. sym (others_stay a.pool.now x a.place a.end a.w c.in_default.in_default-own.keys3) in (
+    let stays : (x : ℕ) → byte_on a.pool.now a.place a.end x a.w ≡ a.w = λ x. sym (others_stay a.pool.now x a.place a.end a.w (opened c.in_default.in_default-own.keys3)) in (
       passed_all a.pool.now a.place a.end a.w a.w a.run.now
           (stays_reach (byte_on a.pool.now a.place a.end) ready_wait a.w stays c.requires.1 a.run.now)
           (stays_through (byte_on a.pool.now a.place a.end) ready_wait a.w stays a.run.now),

@@ -3,6 +3,7 @@ use mathlib.Core.Path.{sym, ap, ◌∙◌}
 use Rattle.process.specs.Waiting.{byte_wait, wait_right}
 use Rattle.events.proofs.DataCases.{bytes_end, bytes_stay, others_stay}
 use borrow.Author.Rules.{rules}
+use borrow.Enum.Refused.{opened}
 use Rattle.events.proofs.receiving.wait_byte.Goals as goal
 
 pub returns-then-n-le1 : goal.returns-then-n-le1
@@ -29,4 +30,4 @@ returns-in-Data c =
 pub returns-in_default : goal.returns-in_default
 returns-in_default c =
     let a = c.args in
-    others_stay a.pool.now a.b a.place a.end a.w c.in_default.in_default-own.keys3
+    others_stay a.pool.now a.b a.place a.end a.w (opened c.in_default.in_default-own.keys3)

@@ -7,6 +7,7 @@ use Rattle.events.specs.Inside.Passing.{through, tick_on, ticks_of}
 use Rattle.events.proofs.Reach.{stays_through}
 use Rattle.events.proofs.WaitsPassed.{least_over, ticks_stay, ticks_over}
 use borrow.Author.Rules.{rules}
+use borrow.Enum.Refused.{opened}
 use Rattle.events.proofs.ticking.ticks_passed.Goals as goal
 
 pub overflow_sub-result : goal.overflow_sub-result
@@ -30,4 +31,4 @@ returns-else-count-last_tick c =
 pub returns-in_default : goal.returns-in_default
 returns-in_default c =
     let a = c.args in
-    sym (stays_through (tick_on a.place a.end) ready_wait a.w (λ x. sym (ticks_past a.place a.end a.w c.in_default.in_default-own.keys2)) (ticks_of a.count))
+    sym (stays_through (tick_on a.place a.end) ready_wait a.w (λ x. sym (ticks_past a.place a.end a.w (opened c.in_default.in_default-own.keys2))) (ticks_of a.count))

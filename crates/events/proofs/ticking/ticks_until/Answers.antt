@@ -9,6 +9,7 @@ use Rattle.process.proofs.Others.{ticks_past}
 use Rattle.events.specs.Inside.Passing.{reach, tick_on, ticks_of}
 use Rattle.events.proofs.Reach.{stays_reach}
 use Rattle.events.proofs.WaitsPassed.{ticks_all, ticks_ready, ticks_done}
+use borrow.Enum.Refused.{opened}
 use Rattle.events.proofs.ticking.ticks_until.Goals as goal
 
 pub returns-then-most-last : goal.returns-then-most-last
@@ -33,5 +34,5 @@ returns-else-place-end c =
 pub returns-in_default : goal.returns-in_default
 returns-in_default c =
     let a = c.args in
-    sym (stays_reach (tick_on a.place a.end) ready_wait a.w (λ x. sym (ticks_past a.place a.end a.w c.in_default.in_default-own.keys2)) c.requires (ticks_of a.most)
+    sym (stays_reach (tick_on a.place a.end) ready_wait a.w (λ x. sym (ticks_past a.place a.end a.w (opened c.in_default.in_default-own.keys2))) c.requires (ticks_of a.most)
     ∙ length-replicate {A = ℕ} a.most 0)

@@ -12,4 +12,4 @@ pub returns-then-line-at-ne32 : goal.returns-then-line-at-ne32
 returns-then-line-at-ne32 c = no_space _ _ (omega arith) c.if-line-at-ne32.true
 
 pub returns : goal.returns
-returns c = c.Signs-taken.ensures ∙ one_space _ _ (omega arith) c.if-line-at-ne32.false
+returns c = c.signs_taken.ensures ∙ one_space _ _ (omega arith) c.if-line-at-ne32.false

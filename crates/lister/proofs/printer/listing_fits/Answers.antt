@@ -16,10 +16,10 @@ table s = record { cells = s.args.cells.now; pool = s.args.pool.now; heads = s.a
 
 pub returns-then-room-ge-LISTING : goal.returns-then-room-ge-LISTING
 returns-then-room-ge-LISTING c =
-    let enough : length (listing_of (table c)) ≤ c.args.room = omega (arith, c.requires.1.fits, c.if-room-ge-LISTING.true) in
+    let enough : length (listing_of (table (goal.at.returns-then-room-ge-LISTING c).Start)) ≤ c.args.room = omega (arith, c.requires.1.fits, c.if-room-ge-LISTING.true) in
     sym (le-leb _ _ enough)
 
 pub returns : goal.returns
 returns c =
-    let n : c.whole.result ≡ length (listing_of (table c)) = omega (arith, c.whole.ensures.place) in
+    let n : c.whole.result ≡ length (listing_of (table (goal.at.returns c).Start)) = omega (arith, c.whole.ensures.place) in
     ap (λ (k : ℕ). leb k c.args.room) n

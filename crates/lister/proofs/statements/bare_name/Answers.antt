@@ -5,6 +5,7 @@ use Rattle.lister.specs.Inside.Names.{bare_name}
 use Rattle.lister.proofs.Printing.{printed_is, room_is}
 use Rattle.lister.proofs.Stating.{no_name}
 use borrow.Author.Rules.{rules}
+use borrow.Enum.Refused.{opened}
 use Rattle.lister.proofs.statements.bare_name.Goals as goal
 
 name-is : {x c : Cell} → x ≡ c → bare_name c ≡ bare_name x
@@ -27,7 +28,7 @@ unfolding bare_name
 put-requires-in-Resume c = room_is (name-is c.in-Resume.is) c.requires
 
 pub put-requires-in_default : goal.put-requires-in_default
-put-requires-in_default c = room_is (no_name _ c.in_default.in_default-own.keys5) c.requires
+put-requires-in_default c = room_is (no_name _ (opened c.in_default.in_default-own.keys5)) c.requires
 
 pub returns-in-End : goal.returns-in-End
 unfolding bare_name
@@ -46,4 +47,4 @@ unfolding bare_name
 returns-in-Resume c = printed_is (name-is c.in-Resume.is) c.put-in-Resume.ensures
 
 pub returns-in_default : goal.returns-in_default
-returns-in_default c = printed_is (no_name _ c.in_default.in_default-own.keys5) c.put-in_default.ensures
+returns-in_default c = printed_is (no_name _ (opened c.in_default.in_default-own.keys5)) c.put-in_default.ensures

@@ -2,6 +2,7 @@
 use native.Mathlib.Omega.{arith}
 use Rattle.runner.proofs.Written.{sent_fits, logged_fits, send_performs, log_performs, other_performs}
 use borrow.Author.Rules.{rules}
+use borrow.Enum.Refused.{opened}
 use Rattle.runner.proofs.turn.perform.Goals as goal
 
 pub send-requires : goal.send-requires
@@ -28,4 +29,4 @@ pub returns-in_default : goal.returns-in_default
 returns-in_default c =
     let a = c.args in
     other_performs a.pool.now a.r a.at a.counts.now a.out.now
-    a.cell c.in_default.in_default-own.keys3 c.said-in_default.ensures
+    a.cell (opened c.in_default.in_default-own.keys3) c.said-in_default.ensures

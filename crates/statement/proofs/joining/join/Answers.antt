@@ -1,6 +1,7 @@
 -- `statement::joining::join` meets its contract: the words from i on decide the rest. Assumes nothing.
 use Rattle.std.proofs.Common.{◌-◌, length, arith, rules}
 use Rattle.statement.proofs.Neighbours.{Joining, join_past, join_end, join_other, join_more}
+use borrow.Enum.Refused.{opened}
 use Rattle.statement.proofs.joining.join.Goals as goal
 
 pub loop-i-init : goal.loop-i-init
@@ -19,7 +20,7 @@ loop-i-preserved c =
 
 pub returns-in_default : goal.returns-in_default
 returns-in_default c =
-    join_other c.loop-i.invariant (omega arith) (omega arith) c.decode.ensures c.in_default.in_default-own.keys2
+    join_other c.loop-i.invariant (omega arith) (omega arith) c.decode.ensures (opened c.in_default.in_default-own.keys2)
     c.told-in_default.ensures
 
 pub told-requires-2 : goal.told-requires-2

@@ -6,7 +6,7 @@ use Rattle.statement.proofs.loops.goes_back.Goals as goal
 pub returns-then-body-p : goal.returns-then-body-p
 returns-then-body-p c =
     let a = c.args in
-    c.Goes-to.ensures ∙ back_inside a.p a.body a.left c.if-body-p.true
+    c.goes_to.ensures ∙ back_inside a.p a.body a.left c.if-body-p.true
 
 pub returns : goal.returns
 returns c =

@@ -6,7 +6,7 @@ use Rattle.statement.proofs.loops.opens.Goals as goal
 pub returns-then-depth-lt-OPEN : goal.returns-then-depth-lt-OPEN
 returns-then-depth-lt-OPEN c =
     let a = c.args in
-    c.Goes-to.ensures ∙ open_room a.p a.next a.n c.if-depth-lt-OPEN.true
+    c.goes_to.ensures ∙ open_room a.p a.next a.n c.if-depth-lt-OPEN.true
 
 pub returns : goal.returns
 returns c =

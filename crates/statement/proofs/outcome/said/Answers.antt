@@ -2,6 +2,7 @@
 use Rattle.std.proofs.Common.{sym, ap, rules}
 use Rattle.statement.specs.Saying.{outcome_of}
 use Rattle.statement.proofs.Others.{other_plain}
+use borrow.Enum.Refused.{opened}
 use Rattle.statement.proofs.outcome.said.Goals as goal
 
 pub returns-in-Send : goal.returns-in-Send
@@ -29,4 +30,4 @@ unfolding outcome_of
 returns-in-Resume c = search rules
 
 pub returns-in_default : goal.returns-in_default
-returns-in_default c = other_plain c.args.n c.args.cell c.in_default.in_default-own.keys7
+returns-in_default c = other_plain c.args.n c.args.cell (opened c.in_default.in_default-own.keys7)
