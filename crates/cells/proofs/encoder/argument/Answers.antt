@@ -3,7 +3,6 @@ use mathlib.Core.Path.{sym, ap, ◌∙◌}
 use Rattle.language.specs.Cell.{argument_of}
 use Rattle.cells.proofs.Encoding.{no_argument}
 use borrow.Author.Rules.{rules}
-use borrow.Enum.Refused.{opened}
 use Rattle.cells.proofs.encoder.argument.Goals as goal
 
 pub returns-in-Send : goal.returns-in-Send
@@ -22,4 +21,4 @@ pub returns-in-Log : goal.returns-in-Log
 returns-in-Log c = c.span_number-in-Log.ensures ∙ sym (ap argument_of c.in-Log.is)
 
 pub returns-in_default : goal.returns-in_default
-returns-in_default c = no_argument c.args.c (opened c.in_default.in_default-own.keys10)
+returns-in_default c = no_argument c.args.c c.in_default.in_default-own.keys10

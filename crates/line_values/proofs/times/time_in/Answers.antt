@@ -6,14 +6,6 @@ use Rattle.line_values.proofs.Timing.{no_unit, in_ms, in_s, in_m, too_many_m, ba
 use borrow.Author.Rules.{rules}
 use Rattle.line_values.proofs.times.time_in.Goals as goal
 
--- TODO unmatched goal
-mul-t8 : tie.Need-overflow-mul-t8
-mul-t8 c = search rules
-
--- TODO unmatched goal
-mul-t17 : tie.Need-overflow-mul-t17
-mul-t17 c = search rules
-
 pub returns-then-unit-eq0 : goal.returns-then-unit-eq0
 unfolding line_from cell_for
 returns-then-unit-eq0 c = ap line_from (sym (no_unit _ _ c.if-unit-eq0.true))
