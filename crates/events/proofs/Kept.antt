@@ -156,7 +156,7 @@ module _ (most : ℕ) where
   unfolding begins
   begins_within from ps zero h = h
   begins_within from [] (suc i) h = h
-  begins_within from (p ∷ ps) (suc i) h = begins_within _ ps i (omega (arith, places_le p.wait (most - from)))
+  begins_within from (p ∷ ps) (suc i) h = begins_within (from + places_for p.wait (most - from)) ps i (omega (arith, places_le p.wait (most - from)))
 
   -- those of the next begin where those of one end
   begins_next : (from : ℕ) (ps : List Process) (i : ℕ) (d : Process) → i < length ps →
@@ -164,7 +164,7 @@ module _ (most : ℕ) where
   unfolding begins
   begins_next from [] i d h = absurd (omega arith)
   begins_next from (p ∷ ps) zero d h = refl
-  begins_next from (p ∷ ps) (suc i) d h = begins_next _ ps i d (omega arith)
+  begins_next from (p ∷ ps) (suc i) d h = begins_next (from + places_for p.wait (most - from)) ps i d (omega arith)
 
 module _ (pool : List ℕ) where
   -- those of process i
@@ -173,7 +173,7 @@ module _ (pool : List ℕ) where
   unfolding begins
   kept_at ls from [] i d h e f w = absurd (omega arith)
   kept_at ls from (p ∷ ps) zero d h e f w = rw (f, e) w.0
-  kept_at ls from (p ∷ ps) (suc i) d h e f w = kept_at ls _ ps i d (omega arith) e f w.1
+  kept_at ls from (p ∷ ps) (suc i) d h e f w = kept_at ls (from + places_for p.wait (length ls - from)) ps i d (omega arith) e f w.1
 
   -- a process, and those behind it
   kept_one : (ls : List ℕ) (from n : ℕ) (p : Process) (ps : List Process) → places_for p.wait (length ls - from) ≡ n →

@@ -6,7 +6,7 @@ use Prim.Native.Nat.{ℕ, zero, suc, ◌+◌, ◌-◌, ◌≤◌, ◌<◌}
 use native.Mathlib.Numerals.{add-one}
 use native.Mathlib.Omega.{arith}
 use lib.Dec.{ltb}
-use lib.ListN.{length, get_or, take, drop, replicate, length-append, length-replicate, drop_of_length-le}
+use lib.ListN.{set, length, get_or, take, drop, replicate, length-append, length-replicate, drop_of_length-le}
 use lib.Seq.{drop-cons, take-take, length-take-le, sets}
 use borrow.Author.Tests.{ltb-true, ltb-false, lt-ltb, le-ltb}
 use Rattle.reader.proofs.Tests.{by_cases}
@@ -24,9 +24,9 @@ copies_fit n b rest w = omega (arith, w.long, w.ends, w.room, length-append (rep
 placed_all : {d₀ : List ℕ} {at : ℕ} {bs d : List ℕ} {place : ℕ} (n b : ℕ) (rest : List ℕ) → Placing d₀ at bs d place (replicate n b ++ rest) →
     Placing d₀ at bs (sets d place (replicate n b)) (place + n) rest
 placed_all {place = place} zero b rest w = let e : place + 0 ≡ place = omega arith in rw e w
-placed_all {place = place} (suc n) b rest w =
+placed_all {d = d} {place = place} (suc n) b rest w =
     let e : place + suc n ≡ suc place + n = omega arith in
-    rw e (rw add-one at (placed_all n b rest (stored w)))
+    rw e (placed_all {d = set d place b} {place = suc place} n b rest (rw add-one at (stored w)))
 
 module _ (h : Heads) (paused : Bool) where
   -- ---- a loop over the bytes: those from i on are left

@@ -10,6 +10,7 @@ use Rattle.events.specs.Inside.Passing.{farther, matched_on}
 use Rattle.events.proofs.Links.{advance_hit, advance_none}
 use Rattle.events.proofs.DataPassed.{begun, matched_on_lem}
 use Rattle.events.proofs.matching.unlinked.Goals as goal
+use Rattle.events.proofs.matching.unlinked.Goals.{then-want-k, else-want-k+else-k-ne0}
 
 pub loop-i-init : goal.loop-i-init
 loop-i-init c = let a = c.args in (omega arith, c.requires, begun a.want.now a.from a.run.now)
@@ -33,10 +34,10 @@ loop-i-preserved c =
     let on : (j : ℕ) → j ≡ advance a.want.now l.k (get_or a.run.now l.i 0) → matched_on a.want.now a.from a.run.now ≡ farther (l.i + 1) (matched_on a.want.now j (drop (l.i + 1) a.run.now)) =
     λ j e. matched_on_lem a.want.now a.from l.i l.k a.run.now l.invariant.2 part inside e
     in
-    ⊎_elim
-    (λ w. (omega arith, omega (arith, w.1), on _ (w.1 ∙ advance_hit _ l.k _ part w.0.taken)))
-    (λ w. (omega arith, omega (arith, w.2), on _ (w.2 ∙ w.1.left ∙ advance_none _ l.k _ part w.0.left w.1.left)))
-    c.if-want-k.branch
+    elim c.if-want-k.branch [
+      then-want-k w ↦ (omega arith, omega (arith, w.k-is), on _ (w.k-is ∙ advance_hit _ l.k _ part w.if-want-k.true))
+    | else-want-k+else-k-ne0 w ↦ (omega arith, omega (arith, w.k-is), on _ (w.k-is ∙ w.if-k-ne0.false ∙ advance_none _ l.k _ part w.if-want-k.false w.if-k-ne0.false))
+    ]
 
 pub returns : goal.returns
 returns c =

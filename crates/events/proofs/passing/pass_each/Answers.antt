@@ -12,7 +12,7 @@ use Rattle.events.proofs.Kept.{places_few, begins_first, kept_at, turn}
 use Rattle.events.proofs.Reach.{none_passes}
 use Rattle.events.proofs.Together.{Going, going_begun, goes_on_lem, goes_less, going_done}
 use Rattle.events.proofs.passing.pass_each.Goals as goal
-use Rattle.events.proofs.passing.pass_each.Goals.{After-wait_passed-r, At-loop-i}
+use Rattle.events.proofs.passing.pass_each.Goals.{then-r-n, else-r-n, After-wait_passed-r, At-loop-i}
 
 all-eight : (c : At-loop-i) → length c.args.ps ≡ 8
 all-eight c = search rules
@@ -20,7 +20,7 @@ all-eight c = search rules
 -- the links that a wait hands back are as many as it was lent
 same_places : (c : After-wait_passed-r) →
     (let l = c.loop-i in
-    length c.wait_passed-r.new.1.1.1.1.1.0 ≡ length (take (l.from + c.places_for.result - l.from) (drop l.from l.links)))
+    length c.wait_passed-r.new.kept ≡ length (take (l.from + c.places_for.result - l.from) (drop l.from l.links)))
 same_places c = search rules
 
 pub loop-i-init : goal.loop-i-init
@@ -61,10 +61,10 @@ loop-i-preserved c =
     let here : l.i < 8 = omega (arith, c.loop-i-test.true) in
     let k : l.from + c.places_for.result - l.from ≡ c.places_for.result = omega arith in
     let t = turn a.pool.now l.links _ a.ps l.i _ (omega arith) l.invariant.2 c.places_for.ensures k (same_places (goal.at.loop-i-preserved c).After-wait_passed-r) c.wait_passed-r.ensures.1 l.invariant.5 in
-    ⊎_elim
-    (λ w. (omega arith, goes_less a.pool.now a.run.now a.ps l.i l.next l.n l.again _ l.invariant.1 (omega arith) c.first.ensures.0 c.wait_passed-r.ensures.0 c.with.ensures w.1 w.0.taken, t.0, t.1, t.2 ∙ l.invariant.4, t.3))
-    (λ w. (omega arith, rw w.1 (goes_on_lem a.pool.now a.run.now a.ps l.i l.next l.n l.again _ l.invariant.1 (omega arith) c.first.ensures.0 c.wait_passed-r.ensures.0 c.with.ensures (λ e. omega (arith, w.0.left))), t.0, t.1, t.2 ∙ l.invariant.4, t.3))
-    c.if-r-n.branch
+    elim c.if-r-n.branch [
+      then-r-n w ↦ (omega arith, goes_less a.pool.now a.run.now a.ps l.i l.next l.n l.again _ l.invariant.1 (omega arith) c.first.ensures.0 c.wait_passed-r.ensures.0 c.with.ensures w.again-is w.if-r-n.true, t.0, t.1, t.2 ∙ l.invariant.4, t.3)
+    | else-r-n w ↦ (omega arith, rw w.again-is (goes_on_lem a.pool.now a.run.now a.ps l.i l.next l.n l.again _ l.invariant.1 (omega arith) c.first.ensures.0 c.wait_passed-r.ensures.0 c.with.ensures (λ e. omega (arith, w.if-r-n.false))), t.0, t.1, t.2 ∙ l.invariant.4, t.3)
+    ]
 
 pub returns : goal.returns
 returns c =

@@ -19,7 +19,7 @@ pub returns-then-left-lt2 : goal.returns-then-left-lt2
 returns-then-left-lt2 c =
     let l = c.loop-i in
     let a = c.args in
-    omega (arith, l.invariant.1, room_stops a.heads a.paused (drop l.i a.run.now) l.false c.if-left-lt2.true)
+    omega (arith, l.invariant.1, room_stops a.heads a.paused (drop l.i a.run.now) l.left c.if-left-lt2.true)
 
 pub overflow_sub-left : goal.overflow_sub-left
 overflow_sub-left c =
@@ -30,11 +30,11 @@ pub loop-i-preserved : goal.loop-i-preserved
 loop-i-preserved c =
     let l = c.loop-i in
     let a = c.args in
-    let r = rw (← c.recorded.ensures) at (room_next a.heads a.paused a.run.now l.i l.false (omega arith) (omega arith)) in
+    let r = rw (← c.recorded.ensures) at (room_next a.heads a.paused a.run.now l.i l.left (omega arith) (omega arith)) in
     (omega arith, omega (arith, l.invariant.1, r))
 
 pub returns : goal.returns
 returns c =
     let l = c.loop-i in
     let a = c.args in
-    omega (arith, l.invariant.1, room_end a.heads a.paused a.run.now l.i l.false c.loop-i-test.false)
+    omega (arith, l.invariant.1, room_end a.heads a.paused a.run.now l.i l.left c.loop-i-test.false)

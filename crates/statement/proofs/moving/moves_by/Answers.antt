@@ -3,7 +3,6 @@ use Rattle.std.proofs.Common.{sym, ap, ◌∙◌, ap₂, rules}
 use Rattle.statement.specs.declared.joining.Joined.{Joined}
 use Rattle.statement.specs.Moving.{awaits, moved_by}
 use Rattle.statement.proofs.MoveCases.{other_passes}
-use borrow.Enum.Refused.{opened}
 use Rattle.statement.proofs.moving.moves_by.Goals as goal
 
 pub returns-in-Nothing : goal.returns-in-Nothing
@@ -67,4 +66,4 @@ returns-in-WaitSignal c =
 pub returns-in_default : goal.returns-in_default
 returns-in_default c =
     let a = c.args in
-    c.passes_on.ensures ∙ other_passes a.p a.cells.now a.levels a.cell (opened c.in_default.in_default-own.keys10)
+    c.passes_on.ensures ∙ other_passes a.p a.cells.now a.levels a.cell c.in_default.in_default-own.keys10

@@ -8,7 +8,7 @@ use Rattle.statement.proofs.outcome.counted.Goals as goal
 
 pub returns-in-Log : goal.returns-in-Log
 unfolding counted_by next_count
-returns-in-Log c = c.wrapping_add_u32.ensures ∙ sym (ap (counted_by c.args.n) c.in-Log.is)
+returns-in-Log c = c.wrapping_add_u32.ensures.value ∙ sym (ap (counted_by c.args.n) c.in-Log.is)
 
 pub returns-in_default : goal.returns-in_default
 returns-in_default c = other_stands c.args.n c.args.cell (opened c.in_default.in_default-own.keys2)
