@@ -2,7 +2,6 @@
 use mathlib.Core.Path.{refl}
 use Rattle.figures.specs.Figures.{capped}
 use Rattle.figures.proofs.Associative.{fig_path}
-use Rattle.figures.proofs.Calls.{free}
 use Rattle.figures.proofs.Figures.hold.Goals as goal
 
 pub returns : goal.returns

@@ -5,7 +5,6 @@ use Prim.Native.Nat.{ℕ, ◌+◌, max}
 use Rattle.figures.specs.Cap.{cap}
 use Rattle.figures.proofs.Associative.{fig_path}
 use Rattle.figures.proofs.Shapes.{joined_ends, joined_never}
-use Rattle.figures.proofs.Calls.{free}
 use Rattle.figures.proofs.Figures.join.Goals as goal
 
 pub returns-then-ends : goal.returns-then-ends

@@ -3,7 +3,6 @@ use mathlib.Core.Path.{sym, ap, ap₂, ◌∙◌}
 use Rattle.figures.specs.Figures.{joined_capped, copies_capped}
 use Rattle.figures.specs.Cap.{over}
 use Rattle.figures.proofs.Shapes.{looped_ever, looped_some}
-use Rattle.figures.proofs.Calls.{free}
 use Rattle.figures.proofs.Figures.passes.Goals as goal
 
 pub returns-then-n-eq0 : goal.returns-then-n-eq0

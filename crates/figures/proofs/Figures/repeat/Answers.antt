@@ -4,7 +4,6 @@ use Prim.Native.Nat.{ℕ, ◌+◌, max}
 use Rattle.figures.specs.Cap.{cap}
 use Rattle.figures.proofs.Associative.{fig_path}
 use Rattle.figures.proofs.Shapes.{copies_none, copies_rest, copies_flat, copies_never}
-use Rattle.figures.proofs.Calls.{free}
 use Rattle.figures.proofs.Figures.repeat.Goals as goal
 
 pub returns-then-n-eq0 : goal.returns-then-n-eq0

@@ -4,7 +4,6 @@ use native.Mathlib.Nat.{mul-le-mul}
 use native.Mathlib.Omega.{arith}
 use Rattle.figures.specs.Cap.{over}
 use Rattle.figures.proofs.Cap.{cap_product}
-use Rattle.figures.proofs.Calls.{free}
 use Rattle.figures.proofs.runs.product.Goals as goal
 
 pub overflow_mul-held : goal.overflow_mul-held

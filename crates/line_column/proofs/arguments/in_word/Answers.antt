@@ -2,6 +2,7 @@
 use mathlib.Core.Path.{◌∙◌}
 use borrow.Author.Tests.{not-true, not-false}
 use Rattle.language.specs.Column.{in_word}
+use Rattle.line_column.specs.Inside.Kinds.{reader_of, taken_of}
 use Rattle.line_column.proofs.Words.{from_within, behind_blanks_lem, end_behind, end_within, bad_byte, not_right, next_word}
 use borrow.Author.Rules.{rules}
 use Rattle.line_column.proofs.arguments.in_word.Goals as goal

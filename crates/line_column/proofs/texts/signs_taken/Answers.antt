@@ -7,6 +7,7 @@ use lib.ListN.{length}
 use borrow.Author.Tests.{not-true, not-false}
 use Rattle.line_column.proofs.Signing.{Signing, text_ended, no_sign, sign, plain, renamed}
 use Rattle.line_column.proofs.texts.signs_taken.Goals as goal
+use Rattle.line_column.proofs.texts.signs_taken.Goals.{then-marked+else-not-is_sign, else-marked}
 
 pub loop-i-init : goal.loop-i-init
 loop-i-init c = record { whole = refl }
@@ -17,10 +18,10 @@ returns-then-not-is_sign c = no_sign c.loop-i.invariant (omega arith) c.if-marke
 pub loop-i-preserved : goal.loop-i-preserved
 loop-i-preserved c =
     let w = c.loop-i.invariant in
-    ⊎_elim
-    (λ w₁. renamed w₁.4 (sign w (omega arith) w₁.0.taken w₁.2.ensures (not-false _ w₁.3.left)))
-    (λ w₂. renamed w₂.2 (plain w (omega arith) w₂.0.left))
-    c.if-marked.branch
+    elim c.if-marked.branch [
+      then-marked+else-not-is_sign w₁ ↦ renamed w₁.marked-is (sign w (omega arith) w₁.if-marked.true w₁.is_sign.ensures w₁.if-not-is_sign.false)
+    | else-marked w₂ ↦ renamed w₂.marked-is (plain w (omega arith) w₂.if-marked.false)
+    ]
 
 pub returns : goal.returns
 returns c = text_ended c.loop-i.invariant (omega arith)

@@ -1,12 +1,9 @@
 -- `number` meets its contract: each turn of the loop is a law on its state, `Reading`. Assumes nothing.
-use Prim.Native.Nat.{◌-◌}
 use mathlib.Core.Path.{◌≡◌, refl, sym, ◌∙◌}
-use mathlib.Core.Logic.{⊎_elim}
 use borrow.Author.Tests.{lt-ltb, le-ltb}
 use native.Mathlib.Omega.{arith}
-use lib.ListN.{length}
 use Rattle.numbers.specs.Number.{digits_ended, number_at}
-use Rattle.numbers.proofs.Reading.{Reading, begun, at_end_lem, stopped, too_long, too_large, taken}
+use Rattle.numbers.proofs.Reading.{begun, at_end_lem, stopped, too_long, too_large, taken}
 use Rattle.numbers.proofs.decimal.number.Goals as goal
 use Rattle.numbers.proofs.decimal.number.Goals.{Left-loop-i, else-loop-i-test, then-loop-i-test+then-d-ge10}
 

@@ -1,12 +1,8 @@
 -- `number` meets its contract: each turn of the loop is a law on its state, `Reading`. Assumes nothing.
 use Prim.Native.Nat.{◌-◌}
-use mathlib.Core.Path.{◌≡◌, refl, sym, ◌∙◌}
-use mathlib.Core.Logic.{⊎_elim}
-use borrow.Author.Tests.{lt-ltb, le-ltb}
-use native.Mathlib.Omega.{arith}
+use mathlib.Core.Path.{◌≡◌}
 use lib.ListN.{length}
-use Rattle.numbers.specs.Number.{digits_ended, number_at}
-use Rattle.numbers.proofs.Reading.{Reading, begun, at_end_lem, stopped, too_long, too_large, taken}
+use Rattle.numbers.proofs.Reading.{Reading}
 use Rattle.numbers.proofs.decimal.number.Given as goal
 
 abbrev pub invariant-loop-i : goal.invariant-loop-i

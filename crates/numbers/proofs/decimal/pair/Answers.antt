@@ -2,7 +2,6 @@
 use mathlib.Core.Path.{sym, ◌∙◌}
 use borrow.Author.Tests.{lt-ltb, le-ltb, le-leb, lt-leb}
 use Rattle.numbers.proofs.Pairs.{pair_none, pair_on, pair_first}
-use borrow.Author.Rules.{rules}
 use Rattle.numbers.proofs.decimal.pair.Goals as goal
 
 pub returns-then-s-at : goal.returns-then-s-at

@@ -2,7 +2,6 @@
 use mathlib.Core.Path.{sym, ◌∙◌}
 use borrow.Author.Tests.{lt-ltb, le-ltb, le-leb, lt-leb}
 use Rattle.numbers.proofs.Pairs.{second_none, second_on_lem}
-use borrow.Author.Rules.{rules}
 use Rattle.numbers.proofs.decimal.second.Goals as goal
 
 pub returns-then-s-at : goal.returns-then-s-at

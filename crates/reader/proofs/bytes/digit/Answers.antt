@@ -1,7 +1,6 @@
 -- `digit` meets its contract: each `return` is a case of `digitOf`. Assumes nothing.
 use native.Mathlib.Omega.{arith}
 use Rattle.reader.proofs.Digits.{digit_low, digit_decimal, digit_between, digit_capital, digit_above, digit_small, digit_high}
-use borrow.Author.Rules.{rules}
 use Rattle.reader.proofs.bytes.digit.Goals as goal
 
 pub returns-then-b-lt48 : goal.returns-then-b-lt48
