@@ -1,11 +1,8 @@
 -- `after_blanks` meets its contract: each turn of the loop is a law on its state, `Passing`. Assumes nothing.
-use Prim.Native.Nat.{◌-◌}
 use mathlib.Core.Path.{refl, sym}
-use borrow.Author.Tests.{not-true, not-false}
 use native.Mathlib.Omega.{arith}
-use lib.ListN.{length}
-use Rattle.words.specs.Words.{blanks, after_blanks}
-use Rattle.words.proofs.Passing.{Passing, counts_blanks, at_end_lem, stopped, passed}
+use Rattle.words.specs.Words.{after_blanks}
+use Rattle.words.proofs.Passing.{counts_blanks, at_end_lem, stopped, passed}
 use Rattle.words.proofs.after_blanks.Goals as goal
 
 pub loop-i-init : goal.loop-i-init

@@ -1,11 +1,8 @@
 -- `after_blanks` meets its contract: each turn of the loop is a law on its state, `Passing`. Assumes nothing.
 use Prim.Native.Nat.{◌-◌}
-use mathlib.Core.Path.{refl, sym}
-use borrow.Author.Tests.{not-true, not-false}
-use native.Mathlib.Omega.{arith}
 use lib.ListN.{length}
-use Rattle.words.specs.Words.{blanks, after_blanks}
-use Rattle.words.proofs.Passing.{Passing, counts_blanks, at_end_lem, stopped, passed}
+use Rattle.words.specs.Words.{blanks}
+use Rattle.words.proofs.Passing.{Passing}
 use Rattle.words.proofs.after_blanks.Given as goal
 
 abbrev pub invariant-loop-i : goal.invariant-loop-i

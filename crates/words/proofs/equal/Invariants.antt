@@ -1,9 +1,7 @@
 -- `equal` meets its contract: each turn of the loop is a law on its state, `Matching`. Assumes nothing.
 use Prim.Native.Nat.{◌-◌}
-use mathlib.Core.Path.{refl, sym}
-use native.Mathlib.Omega.{arith}
 use lib.ListN.{length}
-use Rattle.words.proofs.Passing.{Matching, shorter, differs, alike, longer, all_alike}
+use Rattle.words.proofs.Passing.{Matching}
 use Rattle.words.proofs.equal.Given as goal
 
 abbrev pub invariant-loop-i : goal.invariant-loop-i

@@ -2,7 +2,6 @@
 use mathlib.Core.Path.{◌∙◌}
 use Rattle.words.specs.Words.{is_named}
 use Rattle.words.proofs.Passing.{behind, outside, to_the_end}
-use borrow.Author.Rules.{rules}
 use Rattle.words.proofs.is_named.Goals as goal
 
 pub returns-then-to-from : goal.returns-then-to-from

@@ -1,8 +1,7 @@
 -- `trimmed_end` meets its contract: each turn of the loop is a law on its state, `Trimming`. Assumes nothing.
 use mathlib.Core.Path.{sym}
-use borrow.Author.Tests.{not-true, not-false}
 use native.Mathlib.Omega.{arith}
-use Rattle.words.proofs.Passing.{Trimming, untrimmed, all_trimmed, kept, trimmed}
+use Rattle.words.proofs.Passing.{untrimmed, all_trimmed, kept, trimmed}
 use Rattle.words.proofs.trimmed_end.Goals as goal
 
 pub loop-end-init : goal.loop-end-init

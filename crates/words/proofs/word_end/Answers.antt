@@ -1,10 +1,8 @@
 -- `word_end` meets its contract: each turn of the loop is a law on its state, `Passing`. Assumes nothing.
-use Prim.Native.Nat.{◌-◌}
 use mathlib.Core.Path.{refl, sym}
 use native.Mathlib.Omega.{arith}
-use lib.ListN.{length}
-use Rattle.words.specs.Words.{word_length, word_end}
-use Rattle.words.proofs.Passing.{Passing, counts_word, at_end_lem, stopped, passed}
+use Rattle.words.specs.Words.{word_end}
+use Rattle.words.proofs.Passing.{counts_word, at_end_lem, stopped, passed}
 use Rattle.words.proofs.word_end.Goals as goal
 
 pub loop-i-init : goal.loop-i-init

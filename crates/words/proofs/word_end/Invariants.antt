@@ -1,10 +1,8 @@
 -- `word_end` meets its contract: each turn of the loop is a law on its state, `Passing`. Assumes nothing.
 use Prim.Native.Nat.{◌-◌}
-use mathlib.Core.Path.{refl, sym}
-use native.Mathlib.Omega.{arith}
 use lib.ListN.{length}
-use Rattle.words.specs.Words.{word_length, word_end}
-use Rattle.words.proofs.Passing.{Passing, counts_word, at_end_lem, stopped, passed}
+use Rattle.words.specs.Words.{word_length}
+use Rattle.words.proofs.Passing.{Passing}
 use Rattle.words.proofs.word_end.Given as goal
 
 abbrev pub invariant-loop-i : goal.invariant-loop-i

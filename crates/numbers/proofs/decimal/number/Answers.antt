@@ -15,8 +15,8 @@ left : (c : Left-loop-i)
 left c =
     let w = c.loop-i.invariant.1 in
     elim c.loop-i-test.branch [
-      else-loop-i-test a ↦ at_end_lem w a.loop-i-test.false
-    | then-loop-i-test+then-d-ge10 a ↦ stopped w a.loop-i-test.true (a.wide-d.ensures ∙ a.digit.ensures) a.if-d-ge10.true
+      | else-loop-i-test a ↦ at_end_lem w a.loop-i-test.false
+      | then-loop-i-test+then-d-ge10 a ↦ stopped w a.loop-i-test.true (a.wide-d.ensures ∙ a.digit.ensures) a.if-d-ge10.true
     ]
 
 pub loop-i-init : goal.loop-i-init
