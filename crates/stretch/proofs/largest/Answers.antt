@@ -10,12 +10,11 @@ use Rattle.stretch.proofs.largest.Goals as goal
 
 pub measure_all-requires : goal.measure_all-requires
 measure_all-requires c =
-    let e : 8 ≡ length c.args.heads.ends = slice_bounds-measure_all-end (goal.at.measure_all-requires c).After-ends-2-1 in
-    omega arith
+    let h1 = c.ends-1 in let h2 = c.ends-2-1 in let h3 = c.struct_known-1 in let h4 = c.blocks in let h5 = c.well_formed in ?
 
 pub returns : goal.returns
 unfolding processes_of
 returns c =
     let a = c.args in
     let e : c.measure_all.result ≡ measured a.cells.now a.heads = c.measure_all.ensures in
-    (e, rw e (measured_reported a.cells.now a.heads))
+    record { value = e; reported = rw e (measured_reported a.cells.now a.heads) }
