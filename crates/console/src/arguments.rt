@@ -1,5 +1,4 @@
 // The words that a program is given after its name.
-ghost use Rattle.std.specs.Prelude.{◌≤◌, length};
 ghost use Rattle.console.specs.Counts.{IsPrefixLen};
 
 use std::env::FillError;
