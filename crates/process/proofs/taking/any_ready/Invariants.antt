@@ -9,7 +9,5 @@ use Rattle.process.proofs.taking.any_ready.Given as goal
 abbrev pub invariant-loop-i : goal.invariant-loop-i
 invariant-loop-i l = (l.i ≤ 8) × (any ready l.ps ≡ any ready (drop l.i l.ps))
 
-
 abbrev pub decreases-loop-i : goal.decreases-loop-i
 decreases-loop-i l = 8 - l.i
-
