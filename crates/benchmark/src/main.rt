@@ -11,12 +11,11 @@
 
 use compiler::compile;
 use compiler::faults::number;
-use console::arguments::{Given, asked};
+use console::arguments::{Given, WORD, asked, word};
 use console::parts::first;
 use console::reading::{Whole, read_file};
 use console::saying::{say, say_number, tell};
 use language::{Answer, CELL_PLACES, Cells, Heads, Pool, TEXT, Table, TextFault};
-use libc::{STDERR_FILENO, STDOUT_FILENO};
 use numbers::Number;
 use process::State;
 use runner::starting::{idle, start};
@@ -71,51 +70,51 @@ fn on_started(what: &[u8], table: Table, count: u64, input: &[u8]) -> u64 {
 }
 
 // The bytes of all listings and of one.
-fn say_listing(all: u64, one: u64) {
-    say_number(all) && say(b" ") && say_number(one) && say(b"\n");
+fn say_listing(rt: HostRuntime, all: u64, one: u64) {
+    say_number(rt, all) && say(rt, b" ") && say_number(rt, one) && say(rt, b"\n");
 }
 
-fn list_often<'a>(cells: &'a Cells, pool: &'a Pool, heads: Heads, count: u64) {
+fn list_often<'a>(rt: HostRuntime, cells: &'a Cells, pool: &'a Pool, heads: Heads, count: u64) {
     let listed = tables::list_often(cells, pool, heads, count);
-    say_listing(listed.all, listed.one);
+    say_listing(rt, listed.all, listed.one);
 }
 
-fn on_table(what: &[u8], table: Table, count: u64, input: &[u8]) {
+fn on_table(rt: HostRuntime, what: &[u8], table: Table, count: u64, input: &[u8]) {
     let cells = table.cells;
     let pool = table.pool;
     let heads = table.heads;
     if is_what(what, b"list") {
-        list_often(&cells, &pool, heads, count);
+        list_often(rt, &cells, &pool, heads, count);
         return;
     }
     if is_what(what, b"start") {
-        say_number(tables::start_often(&cells, &pool, heads, count)) && say(b"\n");
+        say_number(rt, tables::start_often(&cells, &pool, heads, count)) && say(rt, b"\n");
         return;
     }
-    say_number(on_started(what, table, count, input)) && say(b"\n");
+    say_number(rt, on_started(what, table, count, input)) && say(rt, b"\n");
 }
 
-fn say_refusal(fault: TextFault, line: u32, column: u32) {
-    say(b"refused ")
-        && say_number(number(fault) as u64)
-        && say(b" at ")
-        && say_number(line as u64)
-        && say(b",")
-        && say_number(column as u64)
-        && say(b"\n");
+fn say_refusal(rt: HostRuntime, fault: TextFault, line: u32, column: u32) {
+    say(rt, b"refused ")
+        && say_number(rt, number(fault) as u64)
+        && say(rt, b" at ")
+        && say_number(rt, line as u64)
+        && say(rt, b",")
+        && say_number(rt, column as u64)
+        && say(rt, b"\n");
 }
 
-fn on_text(what: &[u8], text: &[u8], count: u64, input: &[u8]) {
+fn on_text(rt: HostRuntime, what: &[u8], text: &[u8], count: u64, input: &[u8]) {
     if is_what(what, b"compile") {
-        say_number(tables::compile_often(text, count)) && say(b"\n");
+        say_number(rt, tables::compile_often(text, count)) && say(rt, b"\n");
         return;
     }
     let compiled = compile(text);
     let answer = compiled.answer;
     let table = compiled.table;
     match answer {
-        Answer::Accepted(_) => on_table(what, table, count, input),
-        Answer::Refused(fault, line, column) => say_refusal(fault, line, column),
+        Answer::Accepted(_) => on_table(rt, what, table, count, input),
+        Answer::Refused(fault, line, column) => say_refusal(rt, fault, line, column),
     }
 }
 
@@ -129,23 +128,27 @@ fn value(text: &[u8]) -> u32 {
 }
 
 // How many times.
-fn times(word: usize) -> u64 {
-    let mut text = io::buffer();
-    let n = os::arg(word, &mut text);
+fn times(rt: HostRuntime, place: usize) -> u64 {
+    let mut text = [0u8; WORD];
+    let n = word(rt, place, &mut text);
     value(&text[..n]) as u64
 }
 
-fn usage(to: i32) {
+fn usage(rt: HostRuntime, to: &impl Print) {
     tell(
+        rt,
         to,
         b"usage: benchmark compile|list|start|drain|tick|clock|level SCRIPT N\n",
     ) && tell(
+        rt,
         to,
         b"       benchmark byte|bytes SCRIPT N INPUT, benchmark ticks SCRIPT N COUNT\n",
     ) && tell(
+        rt,
         to,
         b"Does that N times with the script, bytes and ticks as one gulp each time, byte with each byte of\n",
     ) && tell(
+        rt,
         to,
         b"INPUT by itself, and prints what came of it: `tools/benchmark` times it.\n",
     );
@@ -166,31 +169,32 @@ fn is_known(what: &[u8], words: usize) -> bool {
 }
 
 // The bytes of a file whose name is a word; none where there is no such word.
-fn read_word(word: usize, words: usize, buffer: &mut [u8; ROOM]) -> Whole {
-    if words <= word {
+fn read_word(rt: HostRuntime, place: usize, words: usize, buffer: &mut [u8; ROOM]) -> Whole {
+    if words <= place {
         return Whole {
             n: 0,
             is_read: true,
         };
     }
-    let mut path = io::buffer();
-    let n = os::arg(word, &mut path);
-    read_file(&path[..n], buffer)
+    let mut path = [0u8; WORD];
+    let n = word(rt, place, &mut path);
+    read_file(rt, &path[..n], buffer)
 }
 
 // What comes after N: the COUNT itself of `ticks`, and else the bytes of INPUT.
-fn read_input(what: &[u8], words: usize, buffer: &mut [u8; ROOM]) -> Whole {
+fn read_input(rt: HostRuntime, what: &[u8], words: usize, buffer: &mut [u8; ROOM]) -> Whole {
     if is_what(what, b"ticks") {
         return Whole {
-            n: os::arg(4, buffer),
+            n: word(rt, 4, buffer),
             is_read: true,
         };
     }
-    read_word(4, words, buffer)
+    read_word(rt, 4, words, buffer)
 }
 
 // The first bytes of what was read: those of the script, and those of the input.
 fn on_read<'a>(
+    rt: HostRuntime,
     what: &[u8],
     text: &'a [u8; ROOM],
     size: usize,
@@ -198,35 +202,35 @@ fn on_read<'a>(
     bytes: usize,
     count: u64,
 ) {
-    on_text(what, first(text, size), count, first(input, bytes));
+    on_text(rt, what, first(text, size), count, first(input, bytes));
 }
 
-fn on_script(what: &[u8], words: usize, count: u64) {
+fn on_script(rt: HostRuntime, what: &[u8], words: usize, count: u64) {
     let mut text = [0u8; ROOM];
     let mut input = [0u8; ROOM];
-    let script = read_word(2, words, &mut text);
-    let bytes = read_input(what, words, &mut input);
+    let script = read_word(rt, 2, words, &mut text);
+    let bytes = read_input(rt, what, words, &mut input);
     if script.is_read && bytes.is_read {
-        on_read(what, &text, script.n, &input, bytes.n, count);
+        on_read(rt, what, &text, script.n, &input, bytes.n, count);
     }
 }
 
-fn on_words(words: usize) {
-    let mut what = io::buffer();
-    let n = os::arg(1, &mut what);
-    let count = times(3);
+fn on_words(rt: HostRuntime, words: usize) {
+    let mut what = [0u8; WORD];
+    let n = word(rt, 1, &mut what);
+    let count = times(rt, 3);
     if 0 < count && is_known(&what[..n], words) {
-        on_script(&what[..n], words, count);
+        on_script(rt, &what[..n], words, count);
     } else {
-        usage(STDERR_FILENO);
+        usage(rt, &rt.stderr());
     }
 }
 
-fn main() {
-    let given = asked(1);
+fn main(rt: HostRuntime) {
+    let given = asked(rt, 1);
     match given {
-        Given::Help => usage(STDOUT_FILENO),
-        Given::Mistaken => usage(STDERR_FILENO),
-        Given::Words(words) => on_words(words),
+        Given::Help => usage(rt, &rt.stdout()),
+        Given::Mistaken => usage(rt, &rt.stderr()),
+        Given::Words(words) => on_words(rt, words),
     }
 }

@@ -8,53 +8,53 @@ use numbers::{Number, decimal};
 use reader::bytes;
 use reader::widths::wide_byte;
 
-fn byte(b: u8) {
-    tell(b": digit ", wide_byte(bytes::digit(b)));
+fn byte(rt: HostRuntime, b: u8) {
+    tell(rt, b": digit ", wide_byte(bytes::digit(b)));
     if bytes::blank(b) {
-        say(b", blank");
+        say(rt, b", blank");
     }
 }
 
-fn word(text: &[u8], at: usize) {
+fn word(rt: HostRuntime, text: &[u8], at: usize) {
     let from = words::after_blanks(text, at);
-    tell(b": from ", from);
-    tell(b" to ", words::word_end(text, from));
+    tell(rt, b": from ", from);
+    tell(rt, b" to ", words::word_end(text, from));
 }
 
 // The name is the second text of the line.
-fn named(line: &[u8], text: &[u8], from: usize, to: usize) {
+fn named(rt: HostRuntime, line: &[u8], text: &[u8], from: usize, to: usize) {
     let name = text_from(line, text_end(line));
     if words::is_named(text, from, to, name) {
-        say(b": yes");
+        say(rt, b": yes");
     } else {
-        say(b": no");
+        say(rt, b": no");
     }
 }
 
-fn count(text: &[u8], at: usize) {
+fn count(rt: HostRuntime, text: &[u8], at: usize) {
     let counted = hex_data::hex_count(text, at);
     match counted {
-        HexCount::Of(n) => tell(b": count ", n),
-        HexCount::Not(i) => tell(b": bad at ", i),
+        HexCount::Of(n) => tell(rt, b": count ", n),
+        HexCount::Not(i) => tell(rt, b": bad at ", i),
     }
 }
 
-fn answer_data(read: HexRead) {
+fn answer_data(rt: HostRuntime, read: HexRead) {
     match read {
-        HexRead::Bytes(n) => tell(b": bytes ", n),
-        HexRead::Wrong(i) => tell(b": bad at ", i),
-        HexRead::Full => say(b": full"),
+        HexRead::Bytes(n) => tell(rt, b": bytes ", n),
+        HexRead::Wrong(i) => tell(rt, b": bad at ", i),
+        HexRead::Full => say(rt, b": full"),
     }
 }
 
 // Reads into four bytes from `to` on, and shows the four in hex.
-fn data(text: &[u8], at: usize, to: usize) {
+fn data(rt: HostRuntime, text: &[u8], at: usize, to: usize) {
     let mut out = [0xEEu8; 4];
     let mut shown = [b'.'; 8];
     let read = hex_data::hex_into(text, at, &mut out, to);
     writer::put_hex(&mut shown, 0, &out);
-    answer_data(read);
-    shows(&shown);
+    answer_data(rt, read);
+    shows(rt, &shown);
 }
 
 fn number(line: &[u8], text: &[u8], at: usize, b: usize, c: usize) -> Number {
@@ -67,29 +67,29 @@ fn number(line: &[u8], text: &[u8], at: usize, b: usize, c: usize) -> Number {
     hex_data::hex_byte(text, at)
 }
 
-fn answer(n: Number) {
+fn answer(rt: HostRuntime, n: Number) {
     match n {
         Number::Value(v, next) => {
-            tell(b": ", wide_word(v));
-            tell(b", next ", next);
+            tell(rt, b": ", wide_word(v));
+            tell(rt, b", next ", next);
         }
-        Number::Bad(at) => tell(b": bad at ", at),
+        Number::Bad(at) => tell(rt, b": bad at ", at),
     }
 }
 
-pub(crate) fn read(line: &[u8], text: &[u8], a: usize, b: usize, c: usize) {
+pub(crate) fn read(rt: HostRuntime, line: &[u8], text: &[u8], a: usize, b: usize, c: usize) {
     if starts(line, b"byte") {
-        byte(small(a));
+        byte(rt, small(a));
     } else if starts(line, b"word") {
-        word(text, a);
+        word(rt, text, a);
     } else if starts(line, b"trimmed") {
-        tell(b": ", words::trimmed_end(text));
+        tell(rt, b": ", words::trimmed_end(text));
     } else if starts(line, b"named") {
-        named(line, text, a, b);
+        named(rt, line, text, a, b);
     } else if starts(line, b"data") {
-        count(text, a);
-        data(text, a, c);
+        count(rt, text, a);
+        data(rt, text, a, c);
     } else {
-        answer(number(line, text, a, b, c));
+        answer(rt, number(line, text, a, b, c));
     }
 }

@@ -4,58 +4,58 @@ use super::output::{say, shows, tell};
 use super::widths::{narrow, small};
 use writer::Put;
 
-fn answer(p: Put) {
+fn answer(rt: HostRuntime, p: Put) {
     match p {
-        Put::Next(next) => tell(b": next ", next),
-        Put::NoRoom => say(b": no room"),
+        Put::Next(next) => tell(rt, b": next ", next),
+        Put::NoRoom => say(rt, b": no room"),
     }
 }
 
-fn decimal(n: u32, at: usize) {
+fn decimal(rt: HostRuntime, n: u32, at: usize) {
     let mut out = [b'.'; 12];
     let p = writer::put_decimal(&mut out, at, n);
-    answer(p);
-    shows(&out);
+    answer(rt, p);
+    shows(rt, &out);
 }
 
-fn two_digits(n: u8, at: usize) {
+fn two_digits(rt: HostRuntime, n: u8, at: usize) {
     let mut out = [b'.'; 4];
     let p = writer::put_two_digits(&mut out, at, n);
-    answer(p);
-    shows(&out);
+    answer(rt, p);
+    shows(rt, &out);
 }
 
-fn hex_digits(b: u8, at: usize) {
+fn hex_digits(rt: HostRuntime, b: u8, at: usize) {
     let mut out = [b'.'; 4];
     let p = writer::put_hex_digits(&mut out, at, b);
-    answer(p);
-    shows(&out);
+    answer(rt, p);
+    shows(rt, &out);
 }
 
-fn hex(text: &[u8], at: usize) {
+fn hex(rt: HostRuntime, text: &[u8], at: usize) {
     let mut out = [b'.'; 8];
     let p = writer::put_hex(&mut out, at, text);
-    answer(p);
-    shows(&out);
+    answer(rt, p);
+    shows(rt, &out);
 }
 
-fn bytes(text: &[u8], at: usize) {
+fn bytes(rt: HostRuntime, text: &[u8], at: usize) {
     let mut out = [b'.'; 8];
     let p = writer::put_bytes(&mut out, at, text);
-    answer(p);
-    shows(&out);
+    answer(rt, p);
+    shows(rt, &out);
 }
 
-pub(crate) fn put(line: &[u8], text: &[u8], a: usize, b: usize) {
+pub(crate) fn put(rt: HostRuntime, line: &[u8], text: &[u8], a: usize, b: usize) {
     if starts(line, b"put decimal") {
-        decimal(narrow(a), b);
+        decimal(rt, narrow(a), b);
     } else if starts(line, b"put two digits") {
-        two_digits(small(a), b);
+        two_digits(rt, small(a), b);
     } else if starts(line, b"put hex digits") {
-        hex_digits(small(a), b);
+        hex_digits(rt, small(a), b);
     } else if starts(line, b"put hex") {
-        hex(text, a);
+        hex(rt, text, a);
     } else {
-        bytes(text, a);
+        bytes(rt, text, a);
     }
 }

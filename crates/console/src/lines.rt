@@ -3,6 +3,7 @@ ghost use Rattle.std.specs.Prelude.{◌≤◌, ◌≡◌, false};
 
 use crate::parts::place_of;
 use crate::reading::read_on;
+use std::io::Read;
 
 // A line of more bytes than a block has is too long to be held.
 pub const BLOCK: usize = 65536;
@@ -161,10 +162,16 @@ fn kept(block: &mut [u8; BLOCK], held: Held) -> Held
 }
 
 // Reads more into the block.
-fn filled(from: i32, name: &[u8], block: &mut [u8; BLOCK], held: Held) -> Held {
+fn filled<R: Read>(
+    rt: HostRuntime,
+    from: &mut R,
+    name: &[u8],
+    block: &mut [u8; BLOCK],
+    held: Held,
+) -> Held {
     let now = kept(block, held);
     let n = now.end;
-    let some = read_on(from, name, block, n);
+    let some = read_on(rt, from, name, block, n);
     Held {
         at: 0,
         end: n + some.n,
@@ -182,7 +189,13 @@ fn wants_more(line: Line) -> bool {
 }
 
 // A proved loop has to end, and nothing says that the input does: it ends after more reads than any input takes.
-pub fn next_line(from: i32, name: &[u8], block: &mut [u8; BLOCK], before: Held) -> Next {
+pub fn next_line<R: Read>(
+    rt: HostRuntime,
+    from: &mut R,
+    name: &[u8],
+    block: &mut [u8; BLOCK],
+    before: Held,
+) -> Next {
     let mut held = before;
     let mut reads = 0u64;
     while reads < u64::MAX {
@@ -191,7 +204,7 @@ pub fn next_line(from: i32, name: &[u8], block: &mut [u8; BLOCK], before: Held) 
         if !wants_more(line) {
             return next;
         }
-        held = filled(from, name, block, held);
+        held = filled(rt, from, name, block, held);
         reads += 1;
     }
     nothing_told(held, Line::End)

@@ -1,6 +1,11 @@
 // Files and inputs, read whole. What fails is told on standard error, by its name and the system's word.
 ghost use Rattle.std.specs.Prelude.{◌+◌, ◌≤◌, length};
-ghost use Rattle.io.specs.Counts.{IsPrefixLen};
+ghost use Rattle.console.specs.Counts.{IsPrefixLen};
+
+use crate::saying::fail;
+use std::fs::File;
+use std::io::{Error, ErrorKind, Read};
+use std::{fs, io, str};
 
 // How many bytes were read, and whether that is all there is or as much as there is room for.
 #[derive(Clone, Copy)]
@@ -9,44 +14,60 @@ pub struct Whole {
     pub is_read: bool,
 }
 
-// A descriptor, or a number below 0.
-pub fn open(path: &[u8]) -> i32 {
-    let file = os::open_read(path);
-    if file < 0 {
-        os::fail(path);
+// std opens only a name that is UTF-8.
+fn open_named(rt: HostRuntime, path: &[u8]) -> io::Result<File> {
+    match str::from_utf8(path) {
+        Ok(name) => fs::open(&rt, name),
+        Err(_) => Err(Error::from(ErrorKind::InvalidFilename)),
+    }
+}
+
+// A file, or why it cannot be opened, which has been told.
+pub fn open(rt: HostRuntime, path: &[u8]) -> io::Result<File> {
+    let file = open_named(rt, path);
+    if let Err(error) = &file {
+        fail(rt, path, *error);
     }
     file
 }
 
 // What one read brings.
-fn read_some(from: i32, name: &[u8], room: &mut [u8]) -> Whole
+fn read_some<R: Read>(rt: HostRuntime, from: &mut R, name: &[u8], room: &mut [u8]) -> Whole
     ensures { result.n ≤ length room.old }
 {
-    let got = libc::read(from, room);
-    if got < 0 {
-        os::fail(name);
-    }
-    Whole {
-        n: io::count(got, room),
-        is_read: 0 <= got,
+    match from.read(room) {
+        Ok(n) => Whole { n, is_read: true },
+        Err(error) => {
+            fail(rt, name, error);
+            Whole {
+                n: 0,
+                is_read: false,
+            }
+        }
     }
 }
 
 // What one read brings, put into a buffer from a place on.
-pub(crate) fn read_on(from: i32, name: &[u8], buffer: &mut [u8], at: usize) -> Whole
+pub(crate) fn read_on<R: Read>(
+    rt: HostRuntime,
+    from: &mut R,
+    name: &[u8],
+    buffer: &mut [u8],
+    at: usize,
+) -> Whole
     requires { at ≤ length buffer.old }
     ensures { at + result.n ≤ length buffer.old }
 {
-    read_some(from, name, &mut buffer[at..])
+    read_some(rt, from, name, &mut buffer[at..])
 }
 
 // Reads until the input ends, a read fails or the buffer is full.
-pub fn read_whole(from: i32, name: &[u8], buffer: &mut [u8]) -> Whole
+pub fn read_whole<R: Read>(rt: HostRuntime, from: &mut R, name: &[u8], buffer: &mut [u8]) -> Whole
     ensures { IsPrefixLen result.n buffer.new }
 {
     let mut n = 0usize;
     while n < buffer.len() {
-        let some = read_on(from, name, buffer, n);
+        let some = read_on(rt, from, name, buffer, n);
         if some.n == 0 {
             return Whole {
                 n,
@@ -59,17 +80,14 @@ pub fn read_whole(from: i32, name: &[u8], buffer: &mut [u8]) -> Whole
 }
 
 // Reads the file of a name.
-pub fn read_file(path: &[u8], buffer: &mut [u8]) -> Whole
+pub fn read_file(rt: HostRuntime, path: &[u8], buffer: &mut [u8]) -> Whole
     ensures { IsPrefixLen result.n buffer.new }
 {
-    let file = open(path);
-    if file < 0 {
-        return Whole {
+    match open(rt, path) {
+        Ok(mut file) => read_whole(rt, &mut file, path, buffer),
+        Err(_) => Whole {
             n: 0,
             is_read: false,
-        };
+        },
     }
-    let whole = read_whole(file, path, buffer);
-    libc::close(file);
-    whole
 }

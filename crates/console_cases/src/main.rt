@@ -6,56 +6,57 @@ use console::lines::{BLOCK, Line, next_line, nothing};
 use console::parts::{first, rest_from};
 use console::reading::{open, read_file};
 use console::saying::{say, say_number, tell};
-use libc::{STDIN_FILENO, STDOUT_FILENO};
+use std::io::Read;
 
-fn usage(to: i32) {
-    tell(to, b"usage: console_cases [--help] < LINES\n")
+fn usage(rt: HostRuntime, to: &impl Print) {
+    tell(rt, to, b"usage: console_cases [--help] < LINES\n")
         && tell(
+            rt,
             to,
             b"Prints what the library `console` makes of its words, of two files\n",
         )
-        && tell(to, b"and of the lines of its input.\n");
+        && tell(rt, to, b"and of the lines of its input.\n");
 }
 
-fn say_words() {
-    let given = asked(1);
+fn say_words(rt: HostRuntime) {
+    let given = asked(rt, 1);
     match given {
-        Given::Help => usage(STDOUT_FILENO),
+        Given::Help => usage(rt, &rt.stdout()),
         Given::Mistaken => {
-            say(b"mistaken\n");
+            say(rt, b"mistaken\n");
         }
         Given::Words(count) => {
-            say_number(count as u64) && say(b" words\n");
+            say_number(rt, count as u64) && say(rt, b" words\n");
         }
     }
 }
 
-fn say_answer(is: bool) {
+fn say_answer(rt: HostRuntime, is: bool) {
     if is {
-        say(b"yes\n");
+        say(rt, b"yes\n");
     } else {
-        say(b"no\n");
+        say(rt, b"no\n");
     }
 }
 
-fn say_file(name: &[u8]) {
+fn say_file(rt: HostRuntime, name: &[u8]) {
     let mut text = [0u8; 64];
-    let whole = read_file(name, &mut text);
-    say(name) && say(b": ") && say_number(whole.n as u64) && say(b" bytes, read: ");
-    say_answer(whole.is_read);
+    let whole = read_file(rt, name, &mut text);
+    say(rt, name) && say(rt, b": ") && say_number(rt, whole.n as u64) && say(rt, b" bytes, read: ");
+    say_answer(rt, whole.is_read);
 }
 
 // Whether another line may follow.
-fn say_line(line: Line, text: &[u8]) -> bool {
+fn say_line(rt: HostRuntime, line: Line, text: &[u8]) -> bool {
     match line {
-        Line::Of => say(b"[") && say(text) && say(b"]\n"),
-        Line::TooLong => say(b"too long\n"),
+        Line::Of => say(rt, b"[") && say(rt, text) && say(rt, b"]\n"),
+        Line::TooLong => say(rt, b"too long\n"),
         Line::End => {
-            say(b"end\n");
+            say(rt, b"end\n");
             false
         }
         _ => {
-            say(b"unread\n");
+            say(rt, b"unread\n");
             false
         }
     }
@@ -65,29 +66,36 @@ fn text_of(block: &[u8; BLOCK], from: usize, to: usize) -> &[u8] {
     rest_from(first(block, to), from)
 }
 
-fn say_lines(input: i32, name: &[u8]) {
+fn say_lines<R: Read>(rt: HostRuntime, input: &mut R, name: &[u8]) {
     let mut block = [0u8; BLOCK];
     let mut held = nothing();
     let mut left = 100u32;
     while 0 < left {
         left -= 1;
-        let next = next_line(input, name, &mut block, held);
+        let next = next_line(rt, input, name, &mut block, held);
         let now = next.held;
         held = now;
         let line = next.line;
-        if !say_line(line, text_of(&block, next.from, next.to)) {
+        if !say_line(rt, line, text_of(&block, next.from, next.to)) {
             return;
         }
     }
 }
 
-fn main() {
-    say_words();
-    say_answer(is_word(1, b"--help"));
-    say_answer(is_word(1, b"--hel"));
-    say_answer(is_word(2, b""));
-    say_file(b"note");
-    say_file(b"nowhere");
-    say_lines(STDIN_FILENO, b"standard input");
-    say_lines(open(b"."), b"the folder");
+// A folder is opened as a file is, and cannot be read.
+fn say_folder(rt: HostRuntime) {
+    if let Ok(mut folder) = open(rt, b".") {
+        say_lines(rt, &mut folder, b"the folder");
+    }
+}
+
+fn main(rt: HostRuntime) {
+    say_words(rt);
+    say_answer(rt, is_word(rt, 1, b"--help"));
+    say_answer(rt, is_word(rt, 1, b"--hel"));
+    say_answer(rt, is_word(rt, 2, b""));
+    say_file(rt, b"note");
+    say_file(rt, b"nowhere");
+    say_lines(rt, &mut rt.stdin(), b"standard input");
+    say_folder(rt);
 }

@@ -18,7 +18,7 @@ use Rattle.language.specs.declared.TextFault.TheVariants.{BadRest}
 use Rattle.language.specs.Clock.{clock_of}
 use Rattle.language.specs.Script.{Meaning, says, end, fchange, pause, resume, nop, process, wait_signal, send, comment, blank, fault}
 use Rattle.language.specs.Meaning.{Entry, lookup, bare, send_says, clock_says, signal, waits, wait_of, names, named, meaning, stopbits_of}
-use Rattle.language.specs.Column.{faultless, right_line, Behind, behind, behind_blanks, taken_by, named_taken, waits_behind, names_behind, clock_taken, line_taken, column_of, ColumnTold}
+use Rattle.language.specs.Column.{faultless, right_line, Behind, behind_blanks, taken_by, named_taken, waits_behind, names_behind, clock_taken, line_taken, column_of, ColumnTold}
 use Rattle.language.proofs.WordPlace.{OneWord, loop_word, byte_word, rts_word, ex_word}
 use Rattle.language.proofs.LetterPlace.{lfext_word}
 use Rattle.language.proofs.TimePlace.{time_word}

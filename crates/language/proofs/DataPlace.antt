@@ -1,5 +1,5 @@
 -- THE FIRST BYTE THAT CANNOT BE TAKEN OF DATA AND TEXT: marked data, ENCODE's byte, LOG's signs. Assumes nothing.
-use Prim.Native.Nat.{ℕ, suc, ◌+◌}
+use Prim.Native.Nat.{ℕ, suc}
 use mathlib.Core.Path.{◌≡◌, refl, sym, ap, ◌∙◌}
 use mathlib.Core.Bool.{Bool, true, false, cond}
 use mathlib.Core.List.{List, [], ◌∷◌, ◌++◌}

@@ -3,7 +3,6 @@ use Prim.Native.Nat.{ℕ}
 use mathlib.Core.Path.{◌≡◌, refl}
 use mathlib.Core.Bool.{Bool, true, false}
 use mathlib.Core.List.{List, [], ◌∷◌}
-use Rattle.process.specs.declared.Progress.{Progress}
 use Rattle.process.specs.Waiting.{progress_right}
 
 -- a wait for data: where they begin in the pool, how many they are, how many are matched; and whether a byte can be taken, else 25

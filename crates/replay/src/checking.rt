@@ -10,6 +10,7 @@ use console::parts::{first, rest_from};
 use console::reading::{open, read_file};
 use language::{Answer, LISTING, Table};
 use lister::{Listed, list};
+use std::fs::File;
 
 // One byte more than any listing has is enough to know that a file holds another.
 const HELD: usize = LISTING + 1;
@@ -118,6 +119,7 @@ fn same(a: &[u8], b: &[u8]) -> bool {
 
 // Holds what `list_script` prints of the script against a file.
 fn check_listing(
+    rt: HostRuntime,
     line: &mut [u8; LINE],
     at: usize,
     path: &[u8],
@@ -126,7 +128,7 @@ fn check_listing(
 ) -> Case {
     let came = first(out, m);
     let mut held = [0u8; HELD];
-    let whole = read_file(path, &mut held);
+    let whole = read_file(rt, path, &mut held);
     if !whole.is_read {
         return not_read(line, at, path);
     }
@@ -189,21 +191,24 @@ fn run_told(
 }
 
 fn run_case(
+    rt: HostRuntime,
     line: &mut [u8; LINE],
     at: usize,
     table: Table,
-    operations: i32,
+    operations: &mut File,
     operations_path: &[u8],
-    outcomes: i32,
+    outcomes: &mut File,
     outcomes_path: &[u8],
 ) -> Case {
     let mut block = [0u8; BLOCK];
     let mut text = [0u8; LONGEST];
     let t = running::started(
+        rt,
         table,
         operations,
         operations_path,
-        telling::begun(outcomes),
+        telling::begun(false),
+        outcomes,
         &mut block,
         outcomes_path,
         &mut text,
@@ -212,32 +217,27 @@ fn run_case(
 }
 
 // Holds the run of a case against its outcomes.
-fn check_run(line: &mut [u8; LINE], at: usize, name: &[u8], table: Table) -> Case {
+fn check_run(rt: HostRuntime, line: &mut [u8; LINE], at: usize, name: &[u8], table: Table) -> Case {
     let mut input = [0u8; PATH];
     let mut expected = [0u8; PATH];
     let n = path(&mut input, name, b".operations");
     let m = path(&mut expected, name, b".outcomes");
-    let operations = open(named(&input, n));
-    if operations < 0 {
+    let Ok(mut operations) = open(rt, named(&input, n)) else {
         return not_read(line, at, named(&input, n));
-    }
-    let outcomes = open(named(&expected, m));
-    if outcomes < 0 {
-        libc::close(operations);
+    };
+    let Ok(mut outcomes) = open(rt, named(&expected, m)) else {
         return not_read(line, at, named(&expected, m));
-    }
-    let case = run_case(
+    };
+    run_case(
+        rt,
         line,
         at,
         table,
-        operations,
+        &mut operations,
         named(&input, n),
-        outcomes,
+        &mut outcomes,
         named(&expected, m),
-    );
-    libc::close(operations);
-    libc::close(outcomes);
-    case
+    )
 }
 
 fn listing(table: Table, out: &mut [u8; LISTING]) -> usize {
@@ -262,6 +262,7 @@ fn printed(answer: Answer, table: Table, out: &mut [u8; LISTING]) -> usize {
 }
 
 fn listing_checked(
+    rt: HostRuntime,
     line: &mut [u8; LINE],
     at: usize,
     name: &[u8],
@@ -272,7 +273,7 @@ fn listing_checked(
     let mut file = [0u8; PATH];
     let n = path(&mut file, name, b".listing");
     let m = printed(answer, table, &mut out);
-    check_listing(line, at, named(&file, n), &out, m)
+    check_listing(rt, line, at, named(&file, n), &out, m)
 }
 
 fn is_agreed(verdict: Verdict) -> bool {
@@ -284,6 +285,7 @@ fn is_agreed(verdict: Verdict) -> bool {
 
 // A script that is refused has no run.
 fn check_script(
+    rt: HostRuntime,
     line: &mut [u8; LINE],
     at: usize,
     name: &[u8],
@@ -293,13 +295,13 @@ fn check_script(
     let compiled = compile(first(text, n));
     let answer = compiled.answer;
     let table = compiled.table;
-    let case = listing_checked(line, at, name, answer, table);
+    let case = listing_checked(rt, line, at, name, answer, table);
     let verdict = case.verdict;
     if !is_agreed(verdict) {
         return case;
     }
     match answer {
-        Answer::Accepted(_) => check_run(line, case.end, name, table),
+        Answer::Accepted(_) => check_run(rt, line, case.end, name, table),
         Answer::Refused(fault, place, column) => Case {
             verdict: Verdict::Agrees,
             end: refusal(line, case.end, fault, place, column),
@@ -307,13 +309,13 @@ fn check_script(
     }
 }
 
-pub(crate) fn check_case(line: &mut [u8; LINE], at: usize, name: &[u8]) -> Case {
+pub(crate) fn check_case(rt: HostRuntime, line: &mut [u8; LINE], at: usize, name: &[u8]) -> Case {
     let mut file = [0u8; PATH];
     let mut text = [0u8; ROOM];
     let n = path(&mut file, name, b".script");
-    let whole = read_file(named(&file, n), &mut text);
+    let whole = read_file(rt, named(&file, n), &mut text);
     if whole.is_read {
-        return check_script(line, at, name, &text, whole.n);
+        return check_script(rt, line, at, name, &text, whole.n);
     }
     not_read(line, at, named(&file, n))
 }

@@ -7,6 +7,7 @@ use hex_data::{HexRead, hex_byte, hex_into};
 use numbers::Number;
 use numbers::decimal::number;
 use process::Reading;
+use std::io::Read;
 use words::{after_blanks, is_named, trimmed_end, word_end};
 
 #[derive(Clone, Copy)]
@@ -253,14 +254,15 @@ fn in_block(
 }
 
 // The operation of the next line; the bytes of a gulp are put into `run`.
-pub(crate) fn next_operation(
-    input: i32,
+pub(crate) fn next_operation<I: Read>(
+    rt: HostRuntime,
+    input: &mut I,
     name: &[u8],
     block: &mut [u8; BLOCK],
     before: Held,
     run: &mut [u8; RUN],
 ) -> Asked {
-    let next = next_line(input, name, block, before);
+    let next = next_line(rt, input, name, block, before);
     let held = next.held;
     let line = next.line;
     Asked {

@@ -11,10 +11,11 @@ use console::parts::first;
 use events::receiving::{receive, receive_run};
 use events::{read_clock, set_level, tick, tick_run};
 use language::{CELL_PLACES, Cells, Heads, Pool, Table};
-use libc::STDIN_FILENO;
 use process::{Event, State};
 use runner::draining::drain;
 use runner::starting::{Counts, idle, start};
+use std::io;
+use std::io::Read;
 
 // The state after an operation, and what is said of it.
 #[derive(Clone, Copy)]
@@ -133,8 +134,10 @@ fn operate<'a>(
 }
 
 // Takes what is said of an operation.
-fn take(
+fn take<O: Read>(
+    rt: HostRuntime,
     t: Telling,
+    outcomes: &mut O,
     page: &mut [u8; BLOCK],
     name: &[u8],
     said: Said,
@@ -142,7 +145,7 @@ fn take(
     text: &mut [u8; LONGEST],
 ) -> Telling {
     let n = outcomes::write(text, said, bytes);
-    telling::tell(t, page, name, first(text, n))
+    telling::tell(rt, t, outcomes, page, name, first(text, n))
 }
 
 // The state and what is told after an operation.
@@ -159,7 +162,7 @@ fn is_going(now: After) -> bool {
 }
 
 // Nothing waits on the page while the program waits for input.
-fn before_reading(now: After, page: &[u8; BLOCK], held: Held) -> After {
+fn before_reading(rt: HostRuntime, now: After, page: &[u8; BLOCK], held: Held) -> After {
     if held.at < held.end {
         return now;
     }
@@ -167,21 +170,29 @@ fn before_reading(now: After, page: &[u8; BLOCK], held: Held) -> After {
     let t = now.telling;
     After {
         state,
-        telling: telling::flushed(t, page),
+        telling: telling::flushed(rt, t, page),
     }
 }
 
 // The end of the operations, or a read of them that failed.
-fn at_end(now: After, page: &mut [u8; BLOCK], name: &[u8], is_unread: bool) -> Telling {
+fn at_end<O: Read>(
+    rt: HostRuntime,
+    now: After,
+    outcomes: &mut O,
+    page: &mut [u8; BLOCK],
+    name: &[u8],
+    is_unread: bool,
+) -> Telling {
     let t = now.telling;
     if is_unread {
-        return telling::stopped(telling::flushed(t, page), Course::Failed);
+        return telling::stopped(telling::flushed(rt, t, page), Course::Failed);
     }
-    telling::finished(t, page, name)
+    telling::finished(rt, t, outcomes, page, name)
 }
 
 // Does an operation and takes its outcome; `name` is that of the file of outcomes.
-fn turn<'a>(
+fn turn<'a, O: Read>(
+    rt: HostRuntime,
     cells: &'a Cells,
     pool: &'a Pool,
     heads: Heads,
@@ -190,6 +201,7 @@ fn turn<'a>(
     asked: Operation,
     run: &[u8; RUN],
     bytes: &mut [u8; LENT],
+    outcomes: &mut O,
     page: &mut [u8; BLOCK],
     name: &[u8],
     text: &mut [u8; LONGEST],
@@ -204,18 +216,20 @@ fn turn<'a>(
     let said = done.said;
     After {
         state,
-        telling: take(t, page, name, said, bytes, text),
+        telling: take(rt, t, outcomes, page, name, said, bytes, text),
     }
 }
 
-fn run_all<'a>(
+fn run_all<'a, I: Read, O: Read>(
+    rt: HostRuntime,
     cells: &'a Cells,
     pool: &'a Pool,
     heads: Heads,
     begun: After,
     counts: &mut Counts,
-    input: i32,
+    input: &mut I,
     input_name: &[u8],
+    outcomes: &mut O,
     page: &mut [u8; BLOCK],
     name: &[u8],
     text: &mut [u8; LONGEST],
@@ -228,19 +242,20 @@ fn run_all<'a>(
     let mut turns = 0u64;
     while turns < u64::MAX {
         turns += 1;
-        now = before_reading(now, page, held);
+        now = before_reading(rt, now, page, held);
         if !is_going(now) {
             break;
         }
-        let next = operations::next_operation(input, input_name, &mut block, held, &mut run);
+        let next = operations::next_operation(rt, input, input_name, &mut block, held, &mut run);
         let left = next.held;
         held = left;
         let asked = next.operation;
         if operations::is_end(asked) {
-            return at_end(now, page, name, operations::is_unread(asked));
+            return at_end(rt, now, outcomes, page, name, operations::is_unread(asked));
         }
         now = turn(
-            cells, pool, heads, now, counts, asked, &run, &mut bytes, page, name, text,
+            rt, cells, pool, heads, now, counts, asked, &run, &mut bytes, outcomes, page, name,
+            text,
         );
     }
     let told = now.telling;
@@ -248,11 +263,13 @@ fn run_all<'a>(
 }
 
 // Starts the script of a table and takes the operations of an input.
-pub(crate) fn started(
+pub(crate) fn started<I: Read, O: Read>(
+    rt: HostRuntime,
     table: Table,
-    input: i32,
+    input: &mut I,
     input_name: &[u8],
     telling: Telling,
+    outcomes: &mut O,
     page: &mut [u8; BLOCK],
     name: &[u8],
     text: &mut [u8; LONGEST],
@@ -265,6 +282,7 @@ pub(crate) fn started(
     let state = e.state;
     let now = After { state, telling };
     run_all(
+        rt,
         &cells,
         &pool,
         heads,
@@ -272,6 +290,7 @@ pub(crate) fn started(
         &mut counts,
         input,
         input_name,
+        outcomes,
         page,
         name,
         text,
@@ -279,15 +298,17 @@ pub(crate) fn started(
 }
 
 // Prints the outcomes of a run on standard input.
-pub(crate) fn print_run(table: Table) {
+pub(crate) fn print_run(rt: HostRuntime, table: Table) {
     let mut page = [0u8; BLOCK];
     let mut text = [0u8; LONGEST];
-    let printed = telling::begun(-1);
+    let printed = telling::begun(true);
     started(
+        rt,
         table,
-        STDIN_FILENO,
+        &mut rt.stdin(),
         b"standard input",
         printed,
+        &mut io::empty(),
         &mut page,
         b"",
         &mut text,

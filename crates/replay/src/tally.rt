@@ -2,6 +2,8 @@
 use super::checking::{Case, LINE, Verdict, check_case};
 use super::putting::{count, word};
 use super::telling::one_more;
+use console::arguments;
+use console::arguments::WORD;
 use console::parts::first;
 use console::saying::say;
 
@@ -38,10 +40,10 @@ fn counted(tally: Tally, verdict: Verdict, is_said: bool) -> Tally {
 }
 
 // The line of a case: its name and what has come of it.
-fn on_line(line: &mut [u8; LINE], name: &[u8]) -> Case {
+fn on_line(rt: HostRuntime, line: &mut [u8; LINE], name: &[u8]) -> Case {
     let a = word(line, 0, name);
     let b = word(line, a, b": ");
-    let case = check_case(line, b, name);
+    let case = check_case(rt, line, b, name);
     let verdict = case.verdict;
     Case {
         verdict,
@@ -49,20 +51,20 @@ fn on_line(line: &mut [u8; LINE], name: &[u8]) -> Case {
     }
 }
 
-fn say_line(line: &[u8; LINE], end: usize) -> bool {
-    say(first(line, end))
+fn say_line(rt: HostRuntime, line: &[u8; LINE], end: usize) -> bool {
+    say(rt, first(line, end))
 }
 
-fn check_named(i: usize, tally: Tally) -> Tally {
-    let mut name = io::buffer();
+fn check_named(rt: HostRuntime, i: usize, tally: Tally) -> Tally {
+    let mut name = [0u8; WORD];
     let mut line = [0u8; LINE];
-    let n = os::arg(i, &mut name);
-    let case = on_line(&mut line, &name[..n]);
+    let n = arguments::word(rt, i, &mut name);
+    let case = on_line(rt, &mut line, &name[..n]);
     let verdict = case.verdict;
-    counted(tally, verdict, say_line(&line, case.end))
+    counted(tally, verdict, say_line(rt, &line, case.end))
 }
 
-fn say_tally(tally: Tally) {
+fn say_tally(rt: HostRuntime, tally: Tally) {
     let mut line = [0u8; 128];
     let a = word(&mut line, 0, b"cases: ");
     let b = count(&mut line, a, tally.agree);
@@ -71,10 +73,10 @@ fn say_tally(tally: Tally) {
     let e = word(&mut line, d, b" differ, ");
     let f = count(&mut line, e, tally.not_compared);
     let g = word(&mut line, f, b" not compared\n");
-    say(first(&line, g));
+    say(rt, first(&line, g));
 }
 
-pub(crate) fn check_all(words: usize) {
+pub(crate) fn check_all(rt: HostRuntime, words: usize) {
     let mut tally = Tally {
         agree: 0,
         differ: 0,
@@ -83,11 +85,11 @@ pub(crate) fn check_all(words: usize) {
     };
     let mut i = 2usize;
     while i < words {
-        tally = check_named(i, tally);
+        tally = check_named(rt, i, tally);
         if !tally.is_said {
             return;
         }
         i += 1;
     }
-    say_tally(tally);
+    say_tally(rt, tally);
 }

@@ -4,6 +4,7 @@ use super::sizes::LONGEST;
 use console::lines::{BLOCK, Held, Line, next_line, nothing};
 use console::parts::first;
 use console::saying::say;
+use std::io::Read;
 use words::is_named;
 
 #[derive(Clone, Copy)]
@@ -22,8 +23,8 @@ pub enum Course {
 
 #[derive(Clone, Copy)]
 pub struct Telling {
-    // A number below 0 where the outcomes are printed.
-    pub file: i32,
+    // Whether the outcomes are printed; else they are held against a file.
+    pub is_printed: bool,
     pub held: Held,
     // How much of the page is written.
     pub written: usize,
@@ -35,9 +36,9 @@ pub struct Telling {
     pub came: usize,
 }
 
-pub(crate) fn begun(file: i32) -> Telling {
+pub(crate) fn begun(is_printed: bool) -> Telling {
     Telling {
-        file,
+        is_printed,
         held: nothing(),
         written: 0,
         told: 0,
@@ -62,7 +63,7 @@ pub(crate) fn one_more(told: u32) -> u32 {
 pub(crate) fn stopped(t: Telling, course: Course) -> Telling {
     let held = t.held;
     Telling {
-        file: t.file,
+        is_printed: t.is_printed,
         held,
         written: t.written,
         told: t.told,
@@ -77,7 +78,7 @@ fn page_left(t: Telling, written: usize, told: u32) -> Telling {
     let held = t.held;
     let course = t.course;
     Telling {
-        file: t.file,
+        is_printed: t.is_printed,
         held,
         written,
         told,
@@ -89,27 +90,27 @@ fn page_left(t: Telling, written: usize, told: u32) -> Telling {
 }
 
 // Prints the page.
-pub(crate) fn flushed(t: Telling, page: &[u8; BLOCK]) -> Telling {
+pub(crate) fn flushed(rt: HostRuntime, t: Telling, page: &[u8; BLOCK]) -> Telling {
     let written = t.written;
     if written == 0 {
         return t;
     }
-    if say(first(page, written)) {
+    if say(rt, first(page, written)) {
         return page_left(t, 0, t.told);
     }
     stopped(page_left(t, 0, t.told), Course::Failed)
 }
 
 // Prints the page where it has no room for another line.
-fn with_room(t: Telling, page: &[u8; BLOCK]) -> Telling {
+fn with_room(rt: HostRuntime, t: Telling, page: &[u8; BLOCK]) -> Telling {
     if BLOCK - LONGEST <= t.written {
-        return flushed(t, page);
+        return flushed(rt, t, page);
     }
     t
 }
 
-fn on_page(t: Telling, page: &mut [u8; BLOCK], text: &[u8]) -> Telling {
-    let ready = with_room(t, page);
+fn on_page(rt: HostRuntime, t: Telling, page: &mut [u8; BLOCK], text: &[u8]) -> Telling {
+    let ready = with_room(rt, t, page);
     let at = ready.written;
     let end = word(page, at, text);
     page_left(ready, word(page, end, b"\n"), one_more(ready.told))
@@ -125,7 +126,7 @@ fn held_against(
     course: Course,
 ) -> Telling {
     Telling {
-        file: t.file,
+        is_printed: t.is_printed,
         held,
         written: 0,
         told: one_more(t.told),
@@ -150,9 +151,16 @@ fn compared(block: &[u8; BLOCK], line: Line, from: usize, to: usize, text: &[u8]
     }
 }
 
-fn against(t: Telling, block: &mut [u8; BLOCK], name: &[u8], text: &[u8]) -> Telling {
+fn against<O: Read>(
+    rt: HostRuntime,
+    t: Telling,
+    outcomes: &mut O,
+    block: &mut [u8; BLOCK],
+    name: &[u8],
+    text: &[u8],
+) -> Telling {
     let before = t.held;
-    let next = next_line(t.file, name, block, before);
+    let next = next_line(rt, outcomes, name, block, before);
     let held = next.held;
     let line = next.line;
     let from = next.from;
@@ -161,12 +169,19 @@ fn against(t: Telling, block: &mut [u8; BLOCK], name: &[u8], text: &[u8]) -> Tel
     held_against(t, held, from, to, text.len(), course)
 }
 
-// Takes an outcome; `name` is that of the file.
-pub(crate) fn tell(t: Telling, page: &mut [u8; BLOCK], name: &[u8], text: &[u8]) -> Telling {
-    if t.file < 0 {
-        return on_page(t, page, text);
+// Takes an outcome; `name` is that of the file, which has nothing to read where the outcomes are printed.
+pub(crate) fn tell<O: Read>(
+    rt: HostRuntime,
+    t: Telling,
+    outcomes: &mut O,
+    page: &mut [u8; BLOCK],
+    name: &[u8],
+    text: &[u8],
+) -> Telling {
+    if t.is_printed {
+        return on_page(rt, t, page, text);
     }
-    against(t, page, name, text)
+    against(rt, t, outcomes, page, name, text)
 }
 
 fn left_over(line: Line) -> Course {
@@ -178,12 +193,18 @@ fn left_over(line: Line) -> Course {
 }
 
 // After the last outcome the page is printed, or the file has no further line.
-pub(crate) fn finished(t: Telling, page: &mut [u8; BLOCK], name: &[u8]) -> Telling {
-    if t.file < 0 {
-        return flushed(t, page);
+pub(crate) fn finished<O: Read>(
+    rt: HostRuntime,
+    t: Telling,
+    outcomes: &mut O,
+    page: &mut [u8; BLOCK],
+    name: &[u8],
+) -> Telling {
+    if t.is_printed {
+        return flushed(rt, t, page);
     }
     let before = t.held;
-    let next = next_line(t.file, name, page, before);
+    let next = next_line(rt, outcomes, name, page, before);
     let held = next.held;
     let line = next.line;
     let course = left_over(line);

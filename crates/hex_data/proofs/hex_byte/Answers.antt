@@ -2,7 +2,6 @@
 use mathlib.Core.Path.{sym, ◌∙◌}
 use borrow.Author.Tests.{lt-ltb, le-ltb}
 use Rattle.hex_data.proofs.Pairs.{hex_byte_none, hex_byte_on, hex_byte_first, hex_second_none, hex_second_on}
-use borrow.Author.Rules.{rules}
 use Rattle.hex_data.proofs.hex_byte.Goals as goal
 
 pub returns-then-s-at : goal.returns-then-s-at

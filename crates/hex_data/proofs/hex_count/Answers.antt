@@ -1,10 +1,7 @@
 -- `hex_count` meets its contract: each turn of the loop is a law on its state, `Counting`. Assumes nothing.
-use Prim.Native.Nat.{◌-◌}
 use mathlib.Core.Path.{sym, ◌∙◌}
 use native.Mathlib.Omega.{arith}
-use lib.ListN.{length}
-use Rattle.hex_data.proofs.Stepping.{Counting, uncounted, odd_end, even_end, refused, skipped, paired, one_more}
-use borrow.Author.Rules.{rules}
+use Rattle.hex_data.proofs.Stepping.{uncounted, odd_end, even_end, refused, skipped, paired, one_more}
 use Rattle.hex_data.proofs.hex_count.Goals as goal
 
 pub loop-i-init : goal.loop-i-init

@@ -2,7 +2,6 @@
 use mathlib.Core.Path.{sym, ◌∙◌}
 use borrow.Author.Tests.{leb-true}
 use Rattle.hex_data.proofs.Stepping.{counted_good, counted_room, into_wrong, into_full, into_fits}
-use borrow.Author.Rules.{rules}
 use Rattle.hex_data.proofs.hex_into.Goals as goal
 
 pub hex_write-requires : goal.hex_write-requires

@@ -1,7 +1,6 @@
 -- `hex_step` meets its contract: at each `return` the tests that led there say which case of `step_of` holds. Assumes nothing.
 use borrow.Author.Tests.{lt-ltb, le-ltb}
 use Rattle.hex_data.specs.Hex.{step_of}
-use borrow.Author.Rules.{rules}
 use Rattle.hex_data.proofs.hex_step.Goals as goal
 
 pub returns-then-half-lt16 : goal.returns-then-half-lt16

@@ -1,12 +1,8 @@
 -- `hex_write` meets its contract: each turn of the loop is a law on its state, `Writing`. Assumes nothing.
-use Prim.Native.Nat.{◌-◌}
 use mathlib.Core.Path.{sym, ◌∙◌}
 use native.Mathlib.Omega.{arith}
-use lib.ListN.{length, length-set}
-use Rattle.hex_data.specs.Hex.{hex_at}
-use Rattle.hex_data.specs.Inside.Said.{said_bytes}
-use Rattle.hex_data.proofs.Stepping.{Writing, unwritten, all_written, room_for_digit, digit_written, none_refused, parted, begins, room_there, byte_stored}
-use borrow.Author.Rules.{rules}
+use lib.ListN.{length-set}
+use Rattle.hex_data.proofs.Stepping.{unwritten, all_written, room_for_digit, digit_written, none_refused, parted, begins, room_there, byte_stored}
 use Rattle.hex_data.proofs.hex_write.Goals as goal
 
 pub loop-i-init : goal.loop-i-init

@@ -1,12 +1,9 @@
 -- `hex_write` meets its contract: each turn of the loop is a law on its state, `Writing`. Assumes nothing.
 use Prim.Native.Nat.{◌-◌}
-use mathlib.Core.Path.{sym, ◌∙◌}
-use native.Mathlib.Omega.{arith}
-use lib.ListN.{length, length-set}
+use lib.ListN.{length}
 use Rattle.hex_data.specs.Hex.{hex_at}
 use Rattle.hex_data.specs.Inside.Said.{said_bytes}
-use Rattle.hex_data.proofs.Stepping.{Writing, unwritten, all_written, room_for_digit, digit_written, none_refused, parted, begins, room_there, byte_stored}
-use borrow.Author.Rules.{rules}
+use Rattle.hex_data.proofs.Stepping.{Writing}
 use Rattle.hex_data.proofs.hex_write.Given as goal
 
 abbrev pub invariant-loop-i : goal.invariant-loop-i

@@ -1,7 +1,6 @@
 -- `capital_digit` meets its contract: each `return` is a case of `capital`. Assumes nothing.
 use borrow.Author.Tests.{lt-ltb, le-ltb}
 use Rattle.writer.specs.Hex.{capital}
-use borrow.Author.Rules.{rules}
 use Rattle.writer.proofs.capital_digit.Goals as goal
 
 pub returns-then-d-lt10 : goal.returns-then-d-lt10

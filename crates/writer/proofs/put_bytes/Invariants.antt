@@ -1,11 +1,7 @@
 -- `put_bytes` meets its contract: each turn of the loop is a law on its state, `Placing`. Assumes nothing.
 use Prim.Native.Nat.{◌-◌}
-use mathlib.Core.Path.{sym, ◌∙◌}
-use borrow.Author.Tests.{not-true, not-false, leb-true, leb-false}
-use native.Mathlib.Omega.{arith}
-use lib.ListN.{length, drop, drop_of_length-le}
-use Rattle.reader.proofs.Placing.{Placing, begun, renamed, fits, stored}
-use Rattle.writer.proofs.Writing.{done, no_room, next_byte}
+use lib.ListN.{length, drop}
+use Rattle.reader.proofs.Placing.{Placing}
 use Rattle.writer.proofs.put_bytes.Given as goal
 
 abbrev pub invariant-loop-i : goal.invariant-loop-i

@@ -1,9 +1,8 @@
 -- `put_decimal` meets its contract: each turn of the loop is a law on its state, `Digiting`. Assumes nothing.
 use mathlib.Core.Path.{sym, ◌∙◌}
-use borrow.Author.Tests.{not-true, not-false, leb-true, leb-false}
+use borrow.Author.Tests.{leb-true, leb-false}
 use native.Mathlib.Omega.{arith}
-use Rattle.writer.specs.Put.{decimal}
-use Rattle.writer.proofs.Widths.{Digiting, no_digits, unplaced, all_placed, power_left, digit_fits, digit_placed}
+use Rattle.writer.proofs.Widths.{no_digits, unplaced, all_placed, power_left, digit_fits, digit_placed}
 use Rattle.writer.proofs.put_decimal.Goals as goal
 
 pub returns-then-not-has_room : goal.returns-then-not-has_room

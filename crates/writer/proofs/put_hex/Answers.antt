@@ -1,11 +1,10 @@
 -- `put_hex` meets its contract: each turn of the loop is a law on its state, `Placing`. Assumes nothing.
-use Prim.Native.Nat.{◌-◌}
 use mathlib.Core.Path.{ap}
 use native.Mathlib.Omega.{arith}
-use lib.ListN.{length, drop, drop_of_length-le, length-set}
+use lib.ListN.{drop_of_length-le, length-set}
 use Rattle.writer.specs.Hex.{hex_text}
 use Rattle.writer.proofs.Hexes.{hex_length}
-use Rattle.reader.proofs.Placing.{Placing, begun, renamed}
+use Rattle.reader.proofs.Placing.{begun, renamed}
 use Rattle.writer.proofs.Writing.{done, no_room, hex_room, two_stored}
 use Rattle.writer.proofs.put_hex.Goals as goal
 

@@ -1,8 +1,7 @@
 -- `width` meets its contract: each turn of the loop is a law on its state, `Widening`. Assumes nothing.
-use Prim.Native.Nat.{◌-◌}
-use mathlib.Core.Path.{◌≡◌, refl}
+use mathlib.Core.Path.{refl}
 use native.Mathlib.Omega.{arith}
-use Rattle.writer.proofs.Widths.{Widening, narrow, wide_enough, widest, wider}
+use Rattle.writer.proofs.Widths.{narrow, wide_enough, widest, wider}
 use Rattle.writer.proofs.width.Goals as goal
 
 pub loop-w-init : goal.loop-w-init

@@ -1,8 +1,7 @@
 -- `width` meets its contract: each turn of the loop is a law on its state, `Widening`. Assumes nothing.
 use Prim.Native.Nat.{◌-◌}
-use mathlib.Core.Path.{◌≡◌, refl}
-use native.Mathlib.Omega.{arith}
-use Rattle.writer.proofs.Widths.{Widening, narrow, wide_enough, widest, wider}
+use mathlib.Core.Path.{◌≡◌}
+use Rattle.writer.proofs.Widths.{Widening}
 use Rattle.writer.proofs.width.Given as goal
 
 abbrev pub invariant-loop-w : goal.invariant-loop-w

@@ -1,7 +1,5 @@
 -- `arguments::all_plain` ends: the words left fall. Assumes nothing.
-use Prim.Native.Nat.{◌-◌}
-use native.Mathlib.Omega.{arith}
-use borrow.Author.Rules.{rules}
+use Rattle.std.proofs.Common.{◌-◌}
 use Rattle.console.proofs.arguments.all_plain.Given as goal
 
 abbrev pub invariant-loop-i : goal.invariant-loop-i

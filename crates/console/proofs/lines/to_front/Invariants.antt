@@ -1,7 +1,5 @@
 -- `lines::to_front` moves no more than the block has; the bytes left fall. Assumes nothing.
 use Prim.Native.Nat.{◌-◌, ◌≤◌}
-use native.Mathlib.Omega.{arith}
-use borrow.Author.Rules.{rules}
 use Rattle.console.proofs.lines.to_front.Given as goal
 
 abbrev pub invariant-loop-at : goal.invariant-loop-at

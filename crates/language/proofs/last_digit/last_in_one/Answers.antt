@@ -1,6 +1,5 @@
 -- `last_in_one` meets its contract: each `return` is a law on `lastInOne`. Assumes nothing.
 use Rattle.language.proofs.LastDigit.{no_last, not_full, full}
-use borrow.Author.Rules.{rules}
 use Rattle.language.proofs.last_digit.last_in_one.Goals as goal
 
 pub returns-then-data-eq0 : goal.returns-then-data-eq0

@@ -1,10 +1,7 @@
 -- `right_signs` meets its contract: each turn of the loop is a law on its state, `Signing`. Assumes nothing.
-use Prim.Native.Nat.{◌-◌}
 use mathlib.Core.Path.{refl}
 use native.Mathlib.Omega.{arith}
-use lib.ListN.{length}
-use borrow.Author.Tests.{not-true, not-false}
-use Rattle.language.proofs.Signing.{Signing, all_right_lem, no_at, no_more, bad_sign, good_sign}
+use Rattle.language.proofs.Signing.{all_right_lem, no_at, no_more, bad_sign, good_sign}
 use Rattle.language.proofs.signs.right_signs.Goals as goal
 
 pub loop-i-init : goal.loop-i-init

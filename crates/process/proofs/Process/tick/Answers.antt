@@ -1,7 +1,6 @@
 -- `process::Process::tick` meets its contract. Assumes nothing.
 use mathlib.Core.Path.{ap, ◌∙◌}
 use Rattle.process.specs.Waiting.{with_wait}
-use borrow.Author.Rules.{rules}
 use Rattle.process.proofs.Process.tick.Goals as goal
 
 pub returns : goal.returns

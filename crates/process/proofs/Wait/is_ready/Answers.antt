@@ -1,6 +1,5 @@
 -- `process::Wait::is_ready` meets its contract. Assumes nothing.
 use Rattle.process.proofs.Others.{not_ready}
-use borrow.Author.Rules.{rules}
 use borrow.Enum.Refused.{opened}
 use Rattle.process.proofs.Wait.is_ready.Goals as goal
 

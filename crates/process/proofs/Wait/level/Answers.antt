@@ -3,7 +3,6 @@ use mathlib.Core.Path.{sym, ap, ◌∙◌}
 use Rattle.process.specs.Waiting.{level_wait}
 use Rattle.process.proofs.WaitCases.{level_ends, level_stays}
 use Rattle.process.proofs.Others.{levels_past}
-use borrow.Author.Rules.{rules}
 use borrow.Enum.Refused.{opened}
 use Rattle.process.proofs.Wait.level.Goals as goal
 

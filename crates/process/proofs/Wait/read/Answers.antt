@@ -3,7 +3,6 @@ use mathlib.Core.Path.{sym, ap, ◌∙◌}
 use Rattle.process.specs.Waiting.{reading_wait}
 use Rattle.process.proofs.WaitCases.{clock_ends, clock_stays}
 use Rattle.process.proofs.Others.{reads_past}
-use borrow.Author.Rules.{rules}
 use borrow.Enum.Refused.{opened}
 use Rattle.process.proofs.Wait.read.Goals as goal
 

@@ -4,7 +4,6 @@ use Rattle.process.specs.Waiting.{ticked_wait}
 use Rattle.process.proofs.WaitCases.{ticks_end, ticks_on_lem}
 use Rattle.process.proofs.Others.{ticks_past}
 use borrow.Author.Tests.{le-leb, lt-leb}
-use borrow.Author.Rules.{rules}
 use borrow.Enum.Refused.{opened}
 use Rattle.process.proofs.Wait.tick.Goals as goal
 

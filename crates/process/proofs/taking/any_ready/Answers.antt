@@ -1,10 +1,8 @@
 -- `process::taking::any_ready` meets its contract: the processes from i on decide. Assumes nothing.
 use mathlib.Core.Path.{◌≡◌, sym, ◌∙◌}
-use Prim.Native.Nat.{◌≤◌, ◌-◌}
 use native.Mathlib.Omega.{arith}
-use lib.ListN.{length, drop}
+use lib.ListN.{length}
 use borrow.Author.Rules.{rules}
-use Rattle.process.specs.State.{any}
 use Rattle.process.specs.Waiting.{ready}
 use Rattle.process.proofs.Loops.{any_here, any_past, any_end}
 use Rattle.process.proofs.taking.any_ready.Goals as goal

@@ -2,7 +2,6 @@
 use mathlib.Core.Path.{ap₂, ◌∙◌}
 use mathlib.Core.Bool.{◌&&◌}
 use Rattle.process.specs.Waiting.{matches}
-use borrow.Author.Rules.{rules}
 use Rattle.process.proofs.waits.clock_matches.Goals as goal
 
 pub returns : goal.returns

@@ -3,7 +3,6 @@ use mathlib.Core.Path.{ap, ◌∙◌}
 use mathlib.Core.Bool.{Bool, ◌&&◌}
 use lib.Dec.{eqb}
 use Rattle.process.specs.Waiting.{sets_level}
-use borrow.Author.Rules.{rules}
 use Rattle.process.proofs.waits.sets_level.Goals as goal
 
 pub returns : goal.returns

@@ -5,4 +5,4 @@ use borrow.Author.Rules.{rules}
 use Rattle.replay.proofs.running.run_all.Goals as goal
 
 pub loop-turns-smaller : goal.loop-turns-smaller
-loop-turns-smaller c = omega (arith, c.loop-turns-test.true)
+loop-turns-smaller g c = omega (arith, c.loop-turns-test.true)

@@ -5,9 +5,9 @@ use borrow.Author.Rules.{rules}
 use Rattle.replay.proofs.running.run_all.Given as goal
 
 abbrev pub invariant-loop-turns : goal.invariant-loop-turns
-invariant-loop-turns l =
+invariant-loop-turns g l =
     Unit {0}
 
 abbrev pub decreases-loop-turns : goal.decreases-loop-turns
-decreases-loop-turns l =
+decreases-loop-turns g l =
     18446744073709551615 - l.turns
