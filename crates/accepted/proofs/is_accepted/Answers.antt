@@ -13,14 +13,14 @@ use Rattle.accepted.proofs.is_accepted.Goals as goal
 use Rattle.accepted.proofs.is_accepted.Goals.{After-bytes-1, Start}
 
 -- the table that is lent
-abbrev table : tie.Start → Table
+abbrev table : Start → Table
 table s = record { cells = s.args.cells.now; pool = s.args.pool.now; heads = s.args.heads }
 
 typed : (b : After-bytes-1) → Typed (table b)
 typed b = record { cells = search rules; pool = search rules; ends = search rules; omit = search rules; extension = search rules }
 
-bytes : (s : Start) → Bytes c.args.heads
-bytes s = record { encode = search rules; omit = are_bytes c.args.heads.omit (λ i. let f : Fits w8 (get_or c.args.heads.omit i 0) = search rules in f.fits) }
+bytes : (s : Start) → Bytes s.args.heads
+bytes s = record { encode = search rules; omit = are_bytes s.args.heads.omit (λ i. let f : Fits w8 (get_or s.args.heads.omit i 0) = search rules in f.fits) }
 
 pub lines-requires : goal.lines-requires
 lines-requires c =
