@@ -12,15 +12,12 @@ use borrow.Author.Rules.{rules}
 use Rattle.accepted.proofs.is_accepted.Goals as goal
 use Rattle.accepted.proofs.is_accepted.Goals.{After-bytes-1, Start}
 
--- the table that is lent
-abbrev table : tie.Start → Table
-table s = record { cells = s.args.cells.now; pool = s.args.pool.now; heads = s.args.heads }
-
-typed : (b : After-bytes-1) → Typed (table b)
+-- the table that is lent has the values of its types
+typed : (b : After-bytes-1) → Typed (record { cells = b.args.cells.now; pool = b.args.pool.now; heads = b.args.heads })
 typed b = record { cells = search rules; pool = search rules; ends = search rules; omit = search rules; extension = search rules }
 
-bytes : (s : Start) → Bytes c.args.heads
-bytes s = record { encode = search rules; omit = are_bytes c.args.heads.omit (λ i. let f : Fits w8 (get_or c.args.heads.omit i 0) = search rules in f.fits) }
+bytes : (s : Start) → Bytes s.args.heads
+bytes s = record { encode = search rules; omit = are_bytes s.args.heads.omit (λ i. let f : Fits w8 (get_or s.args.heads.omit i 0) = search rules in f.fits) }
 
 pub lines-requires : goal.lines-requires
 lines-requires c =
@@ -33,21 +30,21 @@ returns-in-Largest c =
     as_measured _ (typed (goal.at.returns-in-Largest c).After-bytes-1) (bytes (goal.at.returns-in-Largest c).Start) c.cells_in_use-reach.ensures
     c.in-To.is c.cells_right.ensures c.if-cells_right.true
     c.settings_fit.ensures c.if-settings_fit.true c.lines.ensures
-    c.if-lines-le-LINES.true c.largest-measured.ensures.0 c.in-Largest.is refl
+    c.if-lines-le-LINES.true c.largest-measured.ensures.value c.in-Largest.is refl
 
 pub returns-in-Over : goal.returns-in-Over
 returns-in-Over c =
     as_measured _ (typed (goal.at.returns-in-Over c).After-bytes-1) (bytes (goal.at.returns-in-Over c).Start) c.cells_in_use-reach.ensures
     c.in-To.is c.cells_right.ensures c.if-cells_right.true
     c.settings_fit.ensures c.if-settings_fit.true c.lines.ensures
-    c.if-lines-le-LINES.true c.largest-measured.ensures.0 c.in-Over.is refl
+    c.if-lines-le-LINES.true c.largest-measured.ensures.value c.in-Over.is refl
 
 pub returns-in-Broken : goal.returns-in-Broken
 returns-in-Broken c =
     as_measured _ (typed (goal.at.returns-in-Broken c).After-bytes-1) (bytes (goal.at.returns-in-Broken c).Start) c.cells_in_use-reach.ensures
     c.in-To.is c.cells_right.ensures c.if-cells_right.true
     c.settings_fit.ensures c.if-settings_fit.true c.lines.ensures
-    c.if-lines-le-LINES.true c.largest-measured.ensures.0 c.in-Broken.is refl
+    c.if-lines-le-LINES.true c.largest-measured.ensures.value c.in-Broken.is refl
 
 pub returns-else-lines-le-LINES : goal.returns-else-lines-le-LINES
 returns-else-lines-le-LINES c =

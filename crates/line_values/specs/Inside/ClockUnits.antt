@@ -3,7 +3,6 @@ use Rattle.std.specs.Prelude.{ℕ, List, [], ◌∷◌, get_or}
 use Rattle.numbers.specs.Number.{pair_of}
 use Rattle.hex_data.specs.Hex.{Said, good, bad}
 use Rattle.numbers.specs.declared.Number.{Number}
-use Rattle.numbers.specs.declared.Number.TheVariants as Number
 use Rattle.language.specs.declared.Clock.{Clock}
 use Rattle.language.specs.Clock.{Range}
 use Rattle.language.specs.Cell.{clock, clock_from}

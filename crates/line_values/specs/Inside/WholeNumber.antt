@@ -1,7 +1,6 @@
 -- A number with nothing after it.
 use Rattle.std.specs.Prelude.{ℕ, cond, List, eqb, length}
 use Rattle.numbers.specs.declared.Number.{Number}
-use Rattle.numbers.specs.declared.Number.TheVariants as Number
 
 -- a number with nothing after it
 unfoldable pub whole : List ℕ → Number → Number

@@ -5,9 +5,10 @@ use Rattle.lister.proofs.Fitting.{omits_few, listing_room}
 use Rattle.lister.proofs.Listing.{bad_table, no_room, wrote}
 use borrow.Author.Rules.{rules}
 use Rattle.lister.proofs.list.Goals as goal
+use Rattle.lister.proofs.list.Goals.{Start}
 
 -- the table that is lent
-abbrev table : tie.Start → Table
+abbrev table : Start → Table
 table s = record { cells = s.args.cells.now; pool = s.args.pool.now; heads = s.args.heads }
 
 pub listing_fits-requires : goal.listing_fits-requires

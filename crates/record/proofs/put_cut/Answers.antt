@@ -4,7 +4,6 @@ use Prim.Native.Nat.{◌-◌}
 use native.Mathlib.Omega.{arith}
 use lib.Seq.{length-take-le}
 use Rattle.record.proofs.Putting.{cut_some, cut_none}
-use borrow.Author.Rules.{rules}
 use Rattle.record.proofs.put_cut.Goals as goal
 
 pub slice_bounds-put_bytes-end : goal.slice_bounds-put_bytes-end

@@ -1,7 +1,6 @@
 -- `record::put_sign` meets its contract: each writer's text is the sign's. Assumes nothing.
 use Rattle.record.proofs.Signs.{sign_count, sign_unit, sign_plain}
 use Rattle.record.proofs.Putting.{put_as}
-use borrow.Author.Rules.{rules}
 use Rattle.record.proofs.put_sign.Goals as goal
 
 pub returns-then-b-eq99 : goal.returns-then-b-eq99

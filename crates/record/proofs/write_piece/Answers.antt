@@ -1,7 +1,6 @@
 -- `record::write_piece` meets its contract. Assumes nothing.
 use Rattle.record.proofs.Signs.{piece_sign, piece_none, piece_one}
 use Rattle.record.proofs.Putting.{cut_as, cut_nothing}
-use borrow.Author.Rules.{rules}
 use Rattle.record.proofs.write_piece.Goals as goal
 
 pub returns-then-signed : goal.returns-then-signed

@@ -1,14 +1,13 @@
 -- `record::write_record` meets its contract: each turn of the loop is a law on its state, `Cutting`. Assumes nothing.
-use Prim.Native.Nat.{ℕ, ◌-◌}
+use Prim.Native.Nat.{ℕ}
 use mathlib.Core.Path.{ap}
-use mathlib.Core.Bool.{false}
 use mathlib.Core.List.{List}
 use native.Mathlib.Omega.{arith}
-use lib.ListN.{length, drop, drop_of_length-le}
+use lib.ListN.{drop_of_length-le}
 use borrow.Author.Rules.{rules}
 use Rattle.record.specs.Logging.{written_out}
 use Rattle.record.proofs.Signs.{piece_at}
-use Rattle.record.proofs.Cutting.{Cutting, begun, cut_on, cut_done}
+use Rattle.record.proofs.Cutting.{begun, cut_on, cut_done}
 use Rattle.record.proofs.Putting.{record_small, record_whole}
 use Rattle.record.proofs.write_record.Goals as goal
 

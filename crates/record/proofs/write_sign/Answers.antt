@@ -5,7 +5,6 @@ use lib.ListN.{length, replicate}
 use Rattle.record.specs.Logging.{sign_text}
 use Rattle.record.proofs.Signs.{sign_few}
 use Rattle.record.proofs.Putting.{cut_as, put_long, put_end, put_text, put_never}
-use borrow.Author.Rules.{rules}
 use Rattle.record.proofs.write_sign.Goals as goal
 
 pub slice_bounds-sign-end : goal.slice_bounds-sign-end

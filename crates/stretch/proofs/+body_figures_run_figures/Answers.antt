@@ -1,6 +1,6 @@
 -- The cycle of `run_figures` and `body_figures` meets its contracts: each role is a law of figures' Scanning. Assumes nothing.
 use Rattle.std.proofs.Common.{◌≡◌, ◌∙◌, ℕ, ◌+◌, ◌-◌, ◌≤◌, arith, length}
-use Rattle.figures.specs.Flat.{opens}
+use Rattle.figures.specs.Flat.{deepest}
 use Rattle.figures.specs.Inside.Scan.{MarkAt}
 use Rattle.figures.proofs.Scanning.{scan_starts, scan_past, scan_open, scan_closes, scan_lone, scan_plain, scan_rest, scan_opens, scan_strays, nests_ninth, nests_enters, scan_passes}
 use Rattle.stretch.specs.declared.Role.{Role}
@@ -20,7 +20,7 @@ body_figures-run_figures-body-requires t c =
     (omega (arith, c.decreases), record { order = c.requires.order; inside = c.requires.inside; few = omega arith })
 
 -- one loop more is open in a body
-deeper : (left : ℕ) → (left ≡ 0 → ⊥) → left ≤ 8 → opened (left - 1) ≡ opened left + 1
+deeper : (left : ℕ) → (left ≡ 0 → ⊥) → left ≤ deepest → opened (left - 1) ≡ opened left + 1
 deeper left h few = omega arith
 
 pub body_figures-returns-in_default : goal.body_figures-returns-in_default

@@ -1,6 +1,4 @@
 -- `measure` meets its contract. Assumes nothing.
-use borrow.Author.Rules.{rules}
-use Rattle.figures.proofs.Calls.{free}
 use Rattle.stretch.proofs.Measuring.{alone_nests, alone_strays}
 use Rattle.stretch.proofs.measure.Goals as goal
 

@@ -1,9 +1,5 @@
 -- `measure_all` meets its contract: its loop keeps `Measuring`, and each answer of a process is a law of Measuring. Assumes nothing.
-use Prim.Native.Nat.{◌-◌}
-use native.Mathlib.Omega.{arith}
-use borrow.Author.Rules.{rules}
-use Rattle.figures.proofs.Calls.{free}
-use Rattle.stretch.proofs.Measuring.{Measuring, measuring_starts, measuring_past, measuring_on, measuring_over, measuring_strays}
+use Rattle.stretch.proofs.Measuring.{measuring_starts, measuring_past, measuring_on, measuring_over, measuring_strays}
 use Rattle.stretch.proofs.measure_all.Goals as goal
 
 pub loop-i-init : goal.loop-i-init

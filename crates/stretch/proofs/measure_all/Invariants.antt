@@ -1,9 +1,6 @@
 -- `measure_all` meets its contract: its loop keeps `Measuring`, and each answer of a process is a law of Measuring. Assumes nothing.
 use Prim.Native.Nat.{◌-◌}
-use native.Mathlib.Omega.{arith}
-use borrow.Author.Rules.{rules}
-use Rattle.figures.proofs.Calls.{free}
-use Rattle.stretch.proofs.Measuring.{Measuring, measuring_starts, measuring_past, measuring_on, measuring_over, measuring_strays}
+use Rattle.stretch.proofs.Measuring.{Measuring}
 use Rattle.stretch.proofs.measure_all.Given as goal
 
 abbrev pub invariant-loop-i : goal.invariant-loop-i

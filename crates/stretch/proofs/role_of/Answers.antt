@@ -3,7 +3,6 @@ use mathlib.Core.Path.{sym, ap, ◌∙◌}
 use borrow.Author.Rules.{rules}
 use Rattle.language.specs.Stretch.{mark_of}
 use Rattle.language.specs.Table.{statement_of}
-use Rattle.figures.proofs.Calls.{free}
 use Rattle.stretch.specs.Marks.{cell_mark}
 use Rattle.stretch.proofs.Marking.{mark_loop, mark_time, mark_byte}
 use Rattle.stretch.proofs.Others.{other_plain}

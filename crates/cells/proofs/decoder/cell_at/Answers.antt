@@ -1,6 +1,5 @@
 -- `language::coder::cell_at` meets its contract. Assumes nothing.
 use Rattle.cells.proofs.Coding.{nothing_behind}
-use borrow.Author.Rules.{rules}
 use Rattle.cells.proofs.decoder.cell_at.Goals as goal
 
 pub returns-else-at-words : goal.returns-else-at-words

@@ -2,7 +2,6 @@
 use borrow.Author.Tests.{ne_eqb}
 use Rattle.language.specs.Cell.{cell_of, decoded}
 use Rattle.cells.proofs.Coding.{kind_is}
-use borrow.Author.Rules.{rules}
 use Rattle.cells.proofs.decoder.decode.Goals as goal
 
 pub returns-in-0 : goal.returns-in-0

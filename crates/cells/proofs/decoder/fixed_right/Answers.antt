@@ -3,7 +3,6 @@ use mathlib.Core.Path.{ap, ap₂, ◌∙◌}
 use mathlib.Core.Bool.{Bool, ◌&&◌}
 use lib.Dec.{leb}
 use Rattle.language.specs.Cell.{fixed_right}
-use borrow.Author.Rules.{rules}
 use Rattle.cells.proofs.decoder.fixed_right.Goals as goal
 
 pub returns : goal.returns

@@ -1,6 +1,5 @@
 -- `language::coder::loop_count` meets its contract. Assumes nothing.
 use borrow.Author.Tests.{le-leb, lt-leb}
-use borrow.Author.Rules.{rules}
 use Rattle.cells.proofs.decoder.loop_count.Goals as goal
 
 pub returns-then-argument-le60000 : goal.returns-then-argument-le60000

@@ -1,7 +1,6 @@
 -- `language::coder::span_right` meets its contract. Assumes nothing.
 use borrow.Author.Tests.{le-leb, lt-leb}
 use Rattle.language.specs.Cell.{span_right}
-use borrow.Author.Rules.{rules}
 use Rattle.cells.proofs.decoder.span_right.Goals as goal
 
 pub returns-then-count-low : goal.returns-then-count-low

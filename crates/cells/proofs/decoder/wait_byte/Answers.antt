@@ -1,6 +1,5 @@
 -- `language::coder::wait_byte` meets its contract. Assumes nothing.
 use borrow.Author.Tests.{le-leb, lt-leb}
-use borrow.Author.Rules.{rules}
 use Rattle.cells.proofs.decoder.wait_byte.Goals as goal
 
 pub returns-then-argument-le60000 : goal.returns-then-argument-le60000

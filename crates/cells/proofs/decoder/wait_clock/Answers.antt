@@ -1,6 +1,4 @@
-
 use mathlib.Core.Path.{sym, ◌∙◌}
-use borrow.Author.Rules.{rules}
 use Rattle.cells.proofs.decoder.wait_clock.Goals as goal
 
 pub returns-then-fixed_right : goal.returns-then-fixed_right

@@ -2,7 +2,6 @@
 use Rattle.language.specs.declared.Cell.TheVariants.{WaitData}
 use Rattle.cells.proofs.Coding.{within_pool}
 use mathlib.Core.Path.{sym, ap, ◌∙◌}
-use borrow.Author.Rules.{rules}
 use Rattle.cells.proofs.decoder.wait_data.Goals as goal
 
 pub span_of-requires : goal.span_of-requires

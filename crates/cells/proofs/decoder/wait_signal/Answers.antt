@@ -1,6 +1,5 @@
 -- `language::coder::wait_signal` meets its contract. Assumes nothing.
 use borrow.Author.Tests.{lt-ltb, le-ltb}
-use borrow.Author.Rules.{rules}
 use Rattle.cells.proofs.decoder.wait_signal.Goals as goal
 
 pub returns-then-argument-lt10 : goal.returns-then-argument-lt10

@@ -2,7 +2,6 @@
 use mathlib.Core.Path.{sym, ap, ◌∙◌}
 use Rattle.language.specs.Cell.{argument_of}
 use Rattle.cells.proofs.Encoding.{no_argument}
-use borrow.Author.Rules.{rules}
 use Rattle.cells.proofs.encoder.argument.Goals as goal
 
 pub returns-in-Send : goal.returns-in-Send

@@ -3,7 +3,6 @@ use mathlib.Core.Path.{ap₂, ◌∙◌}
 use Prim.Native.Nat.{ℕ, ◌+◌, ◌*◌, ◌%◌}
 use Rattle.language.specs.Cell.{coded}
 use Rattle.cells.proofs.Encoding.{kind_small}
-use borrow.Author.Rules.{rules}
 use Rattle.cells.proofs.encoder.code.Goals as goal
 
 pub word-requires : goal.word-requires

@@ -14,7 +14,7 @@ said : (c : After-largest)
     c.largest.result ≡ measured args.cells.now (heads_in args.work args.ends.now args.settings.now)
 said c =
     let args = c.args in
-    c.largest.ensures.0 ∙ ap (measured args.cells.now) c.heads_in-heads.ensures
+    c.largest.ensures.value ∙ ap (measured args.cells.now) c.heads_in-heads.ensures
 
 pub returns-then-opened-gt0 : goal.returns-then-opened-gt0
 returns-then-opened-gt0 c = λ st i h. c.refusal.ensures ∙ open_end i h c.if-opened-gt0.true

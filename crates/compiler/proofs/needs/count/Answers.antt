@@ -1,8 +1,7 @@
 -- `count` meets its contract, case by case. Assumes nothing.
 use borrow.Author.Rules.{rules}
 use Rattle.compiler.proofs.Asking.{other_none}
-use borrow.Enum.Refused.{opened}
 use Rattle.compiler.proofs.needs.count.Goals as goal
 
 pub returns-in_default : goal.returns-in_default
-returns-in_default c = other_none c.args.asked (opened c.in_default.in_default-own.keys4)
+returns-in_default c = other_none c.args.asked c.in_default.in_default-own.keys4

@@ -3,7 +3,6 @@ use mathlib.Core.Path.{sym, ap}
 use borrow.Author.Rules.{rules}
 use Rattle.compiler.specs.Inside.Needs.{placed_at}
 use Rattle.compiler.proofs.Asking.{other_same}
-use borrow.Enum.Refused.{opened}
 use Rattle.compiler.proofs.needs.placed.Goals as goal
 
 pub returns-in-Sending : goal.returns-in-Sending
@@ -16,4 +15,4 @@ pub returns-in-Logging : goal.returns-in-Logging
 returns-in-Logging c = ap (placed_at _ _) (sym c.in-Logging.is)
 
 pub returns-in_default : goal.returns-in_default
-returns-in_default c = other_same _ _ c.args.asked (opened c.in_default.in_default-own.keys4)
+returns-in_default c = other_same _ _ c.args.asked c.in_default.in_default-own.keys4

@@ -2,7 +2,6 @@
 use mathlib.Core.Path.{ap, ◌∙◌}
 use Rattle.line_values.specs.Inside.ClockUnits.{clock_read}
 use Rattle.line_values.proofs.Clocking.{no_clock, at_day, at_hour, at_minute, at_second, at_digits}
-use borrow.Author.Rules.{rules}
 use Rattle.line_values.proofs.clocks.clock_value.Goals as goal
 
 pub returns-then-argument-eq0 : goal.returns-then-argument-eq0

@@ -1,7 +1,6 @@
 -- `from_day` meets its contract: each `return` is a case of `from`. Assumes nothing.
 use mathlib.Core.Path.{sym, ◌∙◌}
 use Rattle.line_values.proofs.Clocking.{no_day, day_on_lem, bad_day}
-use borrow.Author.Rules.{rules}
 use Rattle.line_values.proofs.clocks.from_day.Goals as goal
 
 pub returns-then-digits-at : goal.returns-then-digits-at

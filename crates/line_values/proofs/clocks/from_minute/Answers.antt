@@ -1,7 +1,6 @@
 -- `from_minute` meets its contract: each `return` is a case of `from`. Assumes nothing.
 use mathlib.Core.Path.{◌∙◌}
 use Rattle.line_values.proofs.Clocking.{no_minute, minute_on_lem}
-use borrow.Author.Rules.{rules}
 use Rattle.line_values.proofs.clocks.from_minute.Goals as goal
 
 pub returns-then-digits-at : goal.returns-then-digits-at

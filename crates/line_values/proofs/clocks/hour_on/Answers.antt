@@ -1,7 +1,6 @@
 -- `hour_on` meets its contract: the hour stands before the shorter units. Assumes nothing.
 use mathlib.Core.Path.{sym, ◌∙◌}
 use Rattle.line_values.proofs.ClockUnits.{goes_on_lem, stops}
-use borrow.Author.Rules.{rules}
 use Rattle.line_values.proofs.clocks.hour_on.Goals as goal
 
 pub returns-in-Of : goal.returns-in-Of

@@ -1,7 +1,6 @@
 -- `second_on` meets its contract: the shortest unit, with nothing after it. Assumes nothing.
 use mathlib.Core.Path.{sym, ◌∙◌}
 use Rattle.line_values.proofs.ClockUnits.{stops, nothing_left, something_left}
-use borrow.Author.Rules.{rules}
 use Rattle.line_values.proofs.clocks.second_on.Goals as goal
 
 pub returns-then-end-digits : goal.returns-then-end-digits

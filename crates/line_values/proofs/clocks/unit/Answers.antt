@@ -4,7 +4,6 @@ use native.Mathlib.Omega.{arith}
 use Rattle.language.specs.Clock.{range}
 use Rattle.line_values.specs.Inside.ClockUnits.{unit_from}
 use Rattle.line_values.proofs.ClockUnits.{left_out, unit_is, unit_small}
-use borrow.Author.Rules.{rules}
 use Rattle.line_values.proofs.clocks.unit.Goals as goal
 
 pub returns-then-digits-at : goal.returns-then-digits-at

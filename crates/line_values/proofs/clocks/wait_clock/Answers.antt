@@ -1,7 +1,6 @@
 -- `wait_clock` meets its contract: the value that is read, or fault 4. Assumes nothing.
 use mathlib.Core.Path.{sym, ◌∙◌}
 use Rattle.line_values.proofs.Clocking.{value_says, fault_says}
-use borrow.Author.Rules.{rules}
 use Rattle.line_values.proofs.clocks.wait_clock.Goals as goal
 
 pub returns-in-Of : goal.returns-in-Of

@@ -1,7 +1,6 @@
 -- `bare_name` meets its contract: each `return` is a case of `bareLine`. Assumes nothing.
 use mathlib.Core.Path.{sym, ◌∙◌}
 use Rattle.line_values.specs.Inside.Bare.{bare_line}
-use borrow.Author.Rules.{rules}
 use Rattle.line_values.proofs.parts.bare_name.Goals as goal
 
 pub returns-then-only_blanks : goal.returns-then-only_blanks

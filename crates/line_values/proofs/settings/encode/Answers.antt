@@ -3,7 +3,6 @@ use mathlib.Core.Path.{sym, ap, ◌∙◌}
 use Rattle.language.specs.Meaning.{encode_hex, encode_byte}
 use Rattle.line_values.specs.Inside.Line.{line_from}
 use Rattle.line_values.proofs.Encoding.{no_byte, hex_byte_lem, no_second, second, itself, byte_fits}
-use borrow.Author.Rules.{rules}
 use Rattle.line_values.proofs.settings.encode.Goals as goal
 
 pub returns-then-argument-eq0 : goal.returns-then-argument-eq0

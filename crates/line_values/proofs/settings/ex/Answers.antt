@@ -2,7 +2,6 @@
 use mathlib.Core.Path.{sym, ◌∙◌}
 use Rattle.language.specs.Meaning.{ex_in}
 use Rattle.line_values.specs.Inside.Line.{line_from}
-use borrow.Author.Rules.{rules}
 use Rattle.line_values.proofs.settings.ex.Goals as goal
 
 pub returns-then-is_name : goal.returns-then-is_name

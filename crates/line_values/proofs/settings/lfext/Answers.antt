@@ -1,8 +1,6 @@
 -- `lfext` meets its contract: each `return` is a law on the letters. Assumes nothing.
 use native.Mathlib.Omega.{arith}
-use borrow.Author.Tests.{not-true, not-false}
 use Rattle.line_values.proofs.Extension.{no_letter, many_letters, refused_letter, capital, one_letter, two_letters, three_letters}
-use borrow.Author.Rules.{rules}
 use Rattle.line_values.proofs.settings.lfext.Goals as goal
 
 pub returns-then-count-eq0 : goal.returns-then-count-eq0

@@ -1,7 +1,6 @@
 -- `raise` meets its contract: each `return` is a case of `raised`. Assumes nothing.
 use borrow.Author.Tests.{le-leb, lt-leb}
 use Rattle.language.specs.Meaning.{raised}
-use borrow.Author.Rules.{rules}
 use Rattle.line_values.proofs.settings.raise.Goals as goal
 
 pub returns-then-b-lt97 : goal.returns-then-b-lt97

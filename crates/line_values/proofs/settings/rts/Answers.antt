@@ -3,7 +3,6 @@ use mathlib.Core.Path.{sym, ◌∙◌}
 use Rattle.language.specs.Meaning.{rts_of}
 use Rattle.language.specs.Table.{cell_for}
 use Rattle.line_values.specs.Inside.Line.{line_from}
-use borrow.Author.Rules.{rules}
 use Rattle.line_values.proofs.settings.rts.Goals as goal
 
 pub returns-then-is_name : goal.returns-then-is_name

@@ -3,7 +3,6 @@ use mathlib.Core.Path.{ap}
 use Rattle.language.specs.Meaning.{stopbits_of}
 use Rattle.line_values.specs.Inside.Line.{line_from}
 use Rattle.line_values.specs.declared.Line.TheVariants.{Stopbits}
-use borrow.Author.Rules.{rules}
 use Rattle.line_values.proofs.settings.stopbits.Goals as goal
 
 pub returns : goal.returns

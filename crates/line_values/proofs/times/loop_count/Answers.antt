@@ -4,7 +4,6 @@ use native.Mathlib.Omega.{arith}
 use Rattle.language.specs.Table.{cell_for}
 use Rattle.line_values.specs.Inside.Line.{line_from}
 use Rattle.line_values.proofs.Timing.{number_read, number_refused, number_small, loop_nothing, loop_ever_lem, loop_number}
-use borrow.Author.Rules.{rules}
 use Rattle.line_values.proofs.times.loop_count.Goals as goal
 
 pub returns-then-argument-eq0 : goal.returns-then-argument-eq0

@@ -3,7 +3,6 @@ use mathlib.Core.Path.{sym, ap, ◌∙◌}
 use Rattle.language.specs.Table.{cell_for}
 use Rattle.line_values.specs.Inside.Line.{line_from}
 use Rattle.line_values.proofs.Timing.{no_unit, in_ms, in_s, in_m, too_many_m, bad_unit}
-use borrow.Author.Rules.{rules}
 use Rattle.line_values.proofs.times.time_in.Goals as goal
 
 pub returns-then-unit-eq0 : goal.returns-then-unit-eq0

@@ -4,7 +4,6 @@ use native.Mathlib.Omega.{arith}
 use Rattle.language.specs.Table.{cell_for}
 use Rattle.line_values.specs.Inside.Line.{line_from}
 use Rattle.line_values.proofs.Timing.{number_read, number_refused, number_small, byte_nothing, byte_number}
-use borrow.Author.Rules.{rules}
 use Rattle.line_values.proofs.times.wait_byte.Goals as goal
 
 pub returns-then-argument-eq0 : goal.returns-then-argument-eq0

@@ -2,7 +2,6 @@
 use mathlib.Core.Path.{sym, ap, ◌∙◌}
 use Rattle.line_values.specs.Inside.WholeNumber.{whole}
 use Rattle.line_values.proofs.Timing.{all_read, surplus}
-use borrow.Author.Rules.{rules}
 use Rattle.line_values.proofs.times.whole_number.Goals as goal
 
 pub returns-then-next-argument : goal.returns-then-next-argument

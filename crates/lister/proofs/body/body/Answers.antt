@@ -9,10 +9,10 @@ use borrow.Author.Rules.{rules}
 use Rattle.lister.proofs.body.body.Goals as goal
 use Rattle.lister.proofs.body.body.Goals.{After-words-1}
 
-some-cells : (w : After-words-1) → 0 < length c.args.cells.now
+some-cells : (w : After-words-1) → 0 < length w.args.cells.now
 some-cells w = search rules
 
-all-ends : (w : After-words-1) → length c.args.heads.ends ≡ 8
+all-ends : (w : After-words-1) → length w.args.heads.ends ≡ 8
 all-ends w = search rules
 
 pub returns-then-processes-eq0 : goal.returns-then-processes-eq0

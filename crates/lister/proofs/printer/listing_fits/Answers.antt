@@ -9,9 +9,10 @@ use borrow.Author.Tests.{le-leb}
 use Rattle.language.specs.declared.Table.{Table}
 use Rattle.lister.specs.Listed.{listing_of}
 use Rattle.lister.proofs.printer.listing_fits.Goals as goal
+use Rattle.lister.proofs.printer.listing_fits.Goals.{Start}
 
 -- the table that is lent
-abbrev table : tie.Start → Table
+abbrev table : Start → Table
 table s = record { cells = s.args.cells.now; pool = s.args.pool.now; heads = s.args.heads }
 
 pub returns-then-room-ge-LISTING : goal.returns-then-room-ge-LISTING

@@ -6,9 +6,10 @@ use Rattle.lister.proofs.Printing.{printed_is, printed_more, room_is, first_room
 use Rattle.lister.proofs.Setting.{listing_parts}
 use borrow.Author.Rules.{rules}
 use Rattle.lister.proofs.printer.whole.Goals as goal
+use Rattle.lister.proofs.printer.whole.Goals.{Start}
 
 -- the table that is lent
-abbrev table : tie.Start → Table
+abbrev table : Start → Table
 table s = record { cells = s.args.cells.now; pool = s.args.pool.now; heads = s.args.heads }
 
 pub settings-next-requires : goal.settings-next-requires

@@ -10,11 +10,11 @@ use borrow.Author.Rules.{rules}
 use Rattle.lister.proofs.settings.settings.Goals as goal
 use Rattle.lister.proofs.settings.settings.Goals.{Start}
 
-all-omits : (s : Start) → length c.args.heads.omit ≡ 10
+all-omits : (s : Start) → length s.args.heads.omit ≡ 10
 all-omits s = search rules
 
-omits-inside : (s : Start) {n : ℕ} → n ≡ c.args.heads.omits → n ≤ length c.args.heads.omit
-omits-inside s e = omega (arith, all-omits s, c.requires.0)
+omits-inside : (s : Start) {n : ℕ} → n ≡ s.args.heads.omits → n ≤ length s.args.heads.omit
+omits-inside s e = omega (arith, all-omits s, s.requires.0)
 
 pub encode_line-first-requires : goal.encode_line-first-requires
 encode_line-first-requires c = encode_room _ c.requires.1

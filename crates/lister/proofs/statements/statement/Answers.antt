@@ -15,16 +15,16 @@ use Rattle.lister.proofs.statements.statement.Goals as goal
 use Rattle.lister.proofs.statements.statement.Goals.{After-decode-c}
 
 -- the line of the cell that the word says has room, and is the word's
-module _ (d : After-decode-c) {c : Cell} (is : c.decode-c.result ≡ c) where
-  line_room : FitsListing c.args.at (line_for (statement_of c.args.pool.now c))
-  line_room = word_room _ _ c.decode-c.ensures is c.requires
+module _ (d : After-decode-c) {c : Cell} (is : d.decode-c.result ≡ c) where
+  line_room : FitsListing d.args.at (line_for (statement_of d.args.pool.now c))
+  line_room = word_room _ _ d.decode-c.ensures is d.requires
 
   line-printed : {r : ℕ} {e : List ℕ}
-      → Printed (line_for (statement_of c.args.pool.now c)) c.args.out.now
-      c.args.at r e
-      → Printed (word_line c.args.pool.now c.args.w)
-      c.args.out.now c.args.at r e
-  line-printed p = word_printed _ _ c.decode-c.ensures is p
+      → Printed (line_for (statement_of d.args.pool.now c)) d.args.out.now
+      d.args.at r e
+      → Printed (word_line d.args.pool.now d.args.w)
+      d.args.out.now d.args.at r e
+  line-printed p = word_printed _ _ d.decode-c.ensures is p
 
 pub pool_text-requires : goal.pool_text-requires
 unfolding line_for statement_of
