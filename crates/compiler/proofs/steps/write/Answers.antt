@@ -5,4 +5,4 @@ use borrow.Author.Rules.{rules}
 use Rattle.compiler.proofs.steps.write.Goals as goal
 
 pub returns : goal.returns
-returns c = λ loops settings st s e b h. rw c.put_bytes.ensures.1 (written_on s c.requires.room c.requires.data-room e b h)
+returns c = λ loops settings st s e b h. rw c.put_bytes.ensures.1 (written_on s c.requires.room c.requires.data_room e b h)
