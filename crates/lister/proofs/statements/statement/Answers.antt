@@ -10,7 +10,6 @@ use Rattle.lister.specs.Inside.Printed.{FitsListing, Printed, word_line}
 use Rattle.lister.proofs.Printing.{printed_is, room_is}
 use Rattle.lister.proofs.Stating.{word_room, word_printed, signal_few, name_alone}
 use borrow.Author.Rules.{rules}
-use borrow.Enum.Refused.{opened}
 use Rattle.lister.proofs.statements.statement.Goals as goal
 use Rattle.lister.proofs.statements.statement.Goals.{After-decode-c}
 
@@ -67,7 +66,7 @@ unfolding line_for statement_of
 log-requires c = (logged_inside _ c.decode-c.ensures c.in-Log.is, line_room (goal.at.log-requires c).After-decode-c c.in-Log.is)
 
 pub bare_name-requires : goal.bare_name-requires
-bare_name-requires c = room_is (name_alone _ _ (opened c.in_default.in_default-own.keys10)) (line_room (goal.at.bare_name-requires c).After-decode-c refl)
+bare_name-requires c = room_is (name_alone _ _ c.in_default.in_default-own.keys10) (line_room (goal.at.bare_name-requires c).After-decode-c refl)
 
 pub returns-in-Send : goal.returns-in-Send
 unfolding line_for statement_of
@@ -108,4 +107,4 @@ returns-in-Log c = line-printed (goal.at.returns-in-Log c).After-decode-c c.in-L
 pub returns-in_default : goal.returns-in_default
 returns-in_default c =
     line-printed (goal.at.returns-in_default c).After-decode-c refl
-    (printed_is (name_alone _ _ (opened c.in_default.in_default-own.keys10)) c.bare_name.ensures)
+    (printed_is (name_alone _ _ c.in_default.in_default-own.keys10) c.bare_name.ensures)

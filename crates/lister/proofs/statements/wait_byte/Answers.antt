@@ -8,10 +8,10 @@ use Rattle.lister.proofs.statements.wait_byte.Goals as goal
 
 pub number-requires : goal.number-requires
 number-requires c =
-    room_is (ap decimal c.number_of_lem.ensures) (then_room (ascii "#WAIT BYTE ") (decimal c.args.n)
+    room_is (ap decimal c.number_of.ensures) (then_room (ascii "#WAIT BYTE ") (decimal c.args.n)
     c.requires c.put-next.ensures.place)
 
 pub returns : goal.returns
 returns c =
-    printed_more c.put-next.ensures (printed_is (ap decimal c.number_of_lem.ensures)
+    printed_more c.put-next.ensures (printed_is (ap decimal c.number_of.ensures)
     c.number.ensures)

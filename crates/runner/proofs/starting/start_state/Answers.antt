@@ -5,13 +5,12 @@ use Rattle.runner.specs.Starting.{start_state}
 use borrow.Author.Rules.{rules}
 use Rattle.runner.proofs.starting.start_state.Goals as goal
 
-}
-
 pub returns : goal.returns
 unfolding start_state
 returns c =
     λ j. record {
-  processes = c.all_started.ensures j;
-  reading = c.no_reading.ensures j;
-  levels = replicate 5 false;
-  paused = false;
+      processes = c.all_started.ensures j;
+      reading = c.no_reading.ensures j;
+      levels = replicate 5 false;
+      paused = false;
+    }
