@@ -1,5 +1,4 @@
 -- `take` meets its contract, case by case. Assumes nothing.
-use borrow.Author.Rules.{rules}
 use Rattle.compiler.proofs.Standing.{goes, handed}
 use Rattle.compiler.proofs.steps.take.Goals as goal
 

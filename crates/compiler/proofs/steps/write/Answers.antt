@@ -1,7 +1,5 @@
 -- `write` meets its contract by a law of `Writing`. Assumes nothing.
-use borrow.Author.Rules.{rules}
 use Rattle.compiler.proofs.Writing.{written_on}
-use borrow.Author.Rules.{rules}
 use Rattle.compiler.proofs.steps.write.Goals as goal
 
 pub returns : goal.returns
