@@ -1,7 +1,6 @@
 -- `compile` meets its contract: a text that is too long is refused before any line is taken. Assumes nothing.
 use mathlib.Core.Path.{sym, ap, ◌∙◌}
 use native.Mathlib.Omega.{arith}
-use borrow.Author.Rules.{rules}
 use lib.Seq.{take_all}
 use Rattle.language.specs.Answer.{compiled}
 use Rattle.language.specs.Limits.{text_limit}

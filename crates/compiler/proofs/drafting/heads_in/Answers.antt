@@ -6,23 +6,13 @@ use borrow.Author.Rules.{rules}
 use lib.ListN.{length, take, drop, replicate, length-drop}
 use lib.Seq.{length-take-le, take_all}
 use Rattle.compiler.proofs.Setting.{letters_at, put_whole, heads_read}
-use mathlib.Core.Path.{◌≡◌, ◌∙◌}
-use native.Mathlib.Omega.{arith}
-use borrow.Author.Rules.{rules}
-use lib.ListN.{length, take, drop, replicate, length-drop}
-use lib.Seq.{length-take-le, take_all}
-use Rattle.compiler.proofs.Setting.{letters_at, put_whole, heads_read}
 use Rattle.compiler.proofs.drafting.heads_in.Goals as goal
-use Rattle.compiler.proofs.drafting.heads_in.Goals.{After-held-1}
-
--- all of the lent bytes
-long : (c : After-held-1) → length c.args.settings.now ≡ 17
-long c = search rules
 
 pub returns : goal.returns
 returns c =
     let s = c.args.settings.now in
-    let l = long (goal.at.returns c).After-omit-1 in
+    -- all of the lent bytes
+    let l : length s ≡ 17 = search rules in
     let behind = length-drop 7 s in
     heads_read c.args.work c.args.ends.now s
     (c.put_bytes.ensures.1

@@ -1,5 +1,4 @@
 -- `is_comment` meets its contract: comments, and all other lines. Assumes nothing.
-use borrow.Author.Rules.{rules}
 use Rattle.compiler.proofs.Asking.{other_counts}
 use borrow.Enum.Refused.{opened}
 use Rattle.compiler.proofs.drafting.is_comment.Goals as goal

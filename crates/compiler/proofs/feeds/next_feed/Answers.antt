@@ -1,11 +1,6 @@
 -- `next_feed` meets its contract: no LF stands in what its loop has passed. Assumes nothing.
-use Prim.Native.Nat.{◌-◌, ◌≤◌}
-use mathlib.Core.Path.{◌≡◌}
-use mathlib.Core.Bool.{true}
 use native.Mathlib.Omega.{arith}
 use borrow.Author.Rules.{rules}
-use lib.ListN.{length}
-use Rattle.compiler.specs.Inside.Text.{part, no_lf}
 use Rattle.compiler.proofs.Texts.{part_none, no_lf_more}
 use Rattle.compiler.proofs.feeds.next_feed.Goals as goal
 

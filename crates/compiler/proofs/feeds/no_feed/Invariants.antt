@@ -1,12 +1,7 @@
 -- `no_feed` meets its contract: the loop's invariant is the answer for the bytes that it has passed. Assumes nothing.
 use Prim.Native.Nat.{◌+◌, ◌-◌, ◌≤◌}
-use mathlib.Core.Path.{◌≡◌, sym, ◌∙◌}
-use native.Mathlib.Omega.{arith}
-use borrow.Author.Rules.{rules}
-use borrow.Author.Tests.{le-leb, lt-leb}
-use lib.ListN.{length}
+use mathlib.Core.Path.{◌≡◌}
 use Rattle.compiler.specs.Inside.Text.{part, no_lf}
-use Rattle.compiler.proofs.Texts.{no_lf_next}
 use Rattle.compiler.proofs.feeds.no_feed.Given as goal
 
 abbrev pub invariant-loop-i : goal.invariant-loop-i

@@ -1,10 +1,8 @@
 -- `finish` meets its contract: each way on is a law of `Ending`. Assumes nothing.
 use mathlib.Core.Path.{◌≡◌, sym, ap, ◌∙◌}
-use borrow.Author.Rules.{rules}
 use Rattle.stretch.specs.Inside.Measured.{measured}
 use Rattle.compiler.specs.Inside.Drafting.{heads_in}
 use Rattle.compiler.proofs.Ending.{open_end, largest_end, over_end}
-use borrow.Author.Rules.{rules}
 use Rattle.compiler.proofs.lines.finish.Goals as goal
 use Rattle.compiler.proofs.lines.finish.Goals.{After-largest}
 

@@ -1,44 +1,34 @@
 -- `take_each` meets its contract: each turn of its two loops is a law on their states, `Folding` and `Scanning`. Assumes nothing.
-use Prim.Native.Nat.{ℕ, ◌-◌, ◌<◌}
+use Prim.Native.Nat.{ℕ, ◌<◌}
 use mathlib.Core.Path.{◌≡◌, refl, sym, ◌∙◌}
 use mathlib.Core.Bool.{true}
 use native.Mathlib.Omega.{arith}
-use borrow.Author.Rules.{rules}
-use lib.ListN.{length, get_or}
-use Rattle.compiler.specs.declared.drafting.Step.TheVariants.{Going}
+use lib.ListN.{get_or}
 use Rattle.compiler.specs.Inside.Drafting.{work_of}
 use Rattle.compiler.specs.Inside.Text.{clear_from}
-use Rattle.compiler.proofs.Folding.{Folding, Scanning, Lined, first, ready, opened, passed, at_end_lem, overlong, in_line_lem, goes_on_lem, short, refuses, all_taken, at_fault}
+use Rattle.compiler.proofs.Folding.{Lined, first, ready, opened, passed, at_end_lem, overlong, in_line_lem, goes_on_lem, short, refuses, all_taken, at_fault}
 use Rattle.compiler.proofs.lines.take_each.Goals as goal
 use Rattle.compiler.proofs.lines.take_each.Goals.{After-next_feed-end, In-loop-lent}
 
 -- sixteen bytes more hold no LF
-clears : (c : In-loop-lent)
-    → let at-scan = c in
-    let at_entry_lem = at-scan.before.before.before.before.before in
-    clear_from at_entry_lem.args.text.now at-scan.loop.clear ≡ true
+clears : (c : In-loop-lent) → clear_from c.args.text.now c.loop-lent.clear ≡ true
 clears c = sym c.no_feed.ensures ∙ c.loop-lent-test.true
 
 -- where the line ends, at an LF or at the end of the text
 lined : (c : After-next_feed-end)
-    → let at-lines = c in
-    let at_entry_lem = at-lines.before.before.before in
-    Lined
-    at_entry_lem.args.text.now
-    (work_of at-lines.lines.work at-lines.lines.loops at-lines.lines.ends at-lines.lines.settings)
-    at-lines.lines.row
-    at-lines.lines.start
-    at-lines.lines.cells
-    at-lines.lines.pool
+    → Lined
+    c.args.text.now
+    (work_of c.lines.work c.lines.loops c.lines.ends c.lines.settings)
+    c.lines.row
+    c.lines.start
+    c.lines.cells
+    c.lines.pool
     c.next_feed-end.result
 lined c = at_end_lem c.loop-lent.invariant c.next_feed-end.ensures
 
 -- a text is of bytes
-bytes : (c : After-next_feed-end) (i : ℕ)
-    → let at_entry_lem = c in
-    get_or at_entry_lem.args.text.now i 0 < 256
-bytes c i =
-    omega (arith, c.shared_slice_known-1.given i)
+bytes : (c : After-next_feed-end) (i : ℕ) → get_or c.args.text.now i 0 < 256
+bytes c i = omega (arith, c.type_inv.text i)
 
 pub lines-init : goal.lines-init
 lines-init c = (rw c.no_lines-work.ensures (first _ c.requires.0 c.requires.1), refl)

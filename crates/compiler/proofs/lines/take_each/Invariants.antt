@@ -1,14 +1,10 @@
 -- `take_each` meets its contract: each turn of its two loops is a law on their states, `Folding` and `Scanning`. Assumes nothing.
-use Prim.Native.Nat.{ℕ, ◌-◌, ◌<◌}
-use mathlib.Core.Path.{◌≡◌, refl, sym, ◌∙◌}
-use mathlib.Core.Bool.{true}
-use native.Mathlib.Omega.{arith}
-use borrow.Author.Rules.{rules}
-use lib.ListN.{length, get_or}
+use Prim.Native.Nat.{◌-◌}
+use mathlib.Core.Path.{◌≡◌}
+use lib.ListN.{length}
 use Rattle.compiler.specs.declared.drafting.Step.TheVariants.{Going}
 use Rattle.compiler.specs.Inside.Drafting.{work_of}
-use Rattle.compiler.specs.Inside.Text.{clear_from}
-use Rattle.compiler.proofs.Folding.{Folding, Scanning, Lined, first, ready, opened, passed, at_end_lem, overlong, in_line_lem, goes_on_lem, short, refuses, all_taken, at_fault}
+use Rattle.compiler.proofs.Folding.{Folding, Scanning}
 use Rattle.compiler.proofs.lines.take_each.Given as goal
 
 abbrev pub invariant-loop-lent : goal.invariant-loop-lent

@@ -1,6 +1,5 @@
 -- `take_line` meets its contract: each way on is a law of `Lining`. Assumes nothing.
 use mathlib.Core.Path.{sym, ◌∙◌}
-use borrow.Author.Rules.{rules}
 use Rattle.compiler.proofs.Standing.{handed}
 use Rattle.compiler.proofs.Lining.{long_stop, comment_on, many_stop, counted_within, said_fits, counts_on}
 use Rattle.compiler.proofs.lines.take_line.Goals as goal

@@ -1,6 +1,5 @@
 -- `take_lines` meets its contract: the arrays begin as those of the draft before the first line, and its end is that of the lines. Assumes nothing.
 use mathlib.Core.Path.{sym, ◌∙◌}
-use borrow.Author.Rules.{rules}
 use Rattle.compiler.proofs.Folding.{nothing, deep}
 use Rattle.compiler.proofs.Ending.{never_broken}
 use Rattle.compiler.proofs.lines.take_lines.Goals as goal

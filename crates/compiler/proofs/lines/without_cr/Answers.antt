@@ -1,6 +1,5 @@
 -- `without_cr` meets its contract: each way on is a law of `Texts`. Assumes nothing.
 use native.Mathlib.Omega.{arith}
-use borrow.Author.Rules.{rules}
 use Rattle.compiler.proofs.Texts.{cr_dropped, cr_kept, cr_none}
 use Rattle.compiler.proofs.lines.without_cr.Goals as goal
 

@@ -1,5 +1,4 @@
 -- `count` meets its contract, case by case. Assumes nothing.
-use borrow.Author.Rules.{rules}
 use Rattle.compiler.proofs.Asking.{other_none}
 use Rattle.compiler.proofs.needs.count.Goals as goal
 

@@ -2,7 +2,6 @@
 use mathlib.Core.Path.{sym, ap}
 use Rattle.compiler.specs.Inside.Needs.{needs_of}
 use Rattle.compiler.proofs.Asking.{other_plain}
-use borrow.Author.Rules.{rules}
 use borrow.Enum.Refused.{opened}
 use Rattle.compiler.proofs.needs.needs_of.Goals as goal
 

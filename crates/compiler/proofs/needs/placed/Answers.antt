@@ -1,6 +1,5 @@
 -- `placed` meets its contract, case by case. Assumes nothing.
 use mathlib.Core.Path.{sym, ap}
-use borrow.Author.Rules.{rules}
 use Rattle.compiler.specs.Inside.Needs.{placed_at}
 use Rattle.compiler.proofs.Asking.{other_same}
 use Rattle.compiler.proofs.needs.placed.Goals as goal

@@ -1,5 +1,4 @@
 -- `closing` meets its contract: each way on is a law of `Nesting`. Assumes nothing.
-use borrow.Author.Rules.{rules}
 use Rattle.compiler.proofs.Standing.{handed}
 use Rattle.compiler.proofs.Nesting.{closes_on, closes_stop}
 use Rattle.compiler.proofs.steps.closing.Goals as goal

@@ -1,5 +1,4 @@
 -- `nested` meets its contract, case by case. Assumes nothing.
-use borrow.Author.Rules.{rules}
 use Rattle.compiler.proofs.Asking.{other_stays}
 use Rattle.compiler.proofs.Standing.{handed}
 use Rattle.compiler.proofs.Nesting.{stays_on}

@@ -1,8 +1,6 @@
 -- `next_process` meets its contract: each way on is a law of `Beginning`. Assumes nothing.
-use borrow.Author.Rules.{rules}
 use Rattle.compiler.proofs.Standing.{handed}
 use Rattle.compiler.proofs.Beginning.{next_on, next_stop}
-use borrow.Author.Rules.{rules}
 use Rattle.compiler.proofs.steps.next_process.Goals as goal
 
 pub returns-then-at-ge-PROCESSES : goal.returns-then-at-ge-PROCESSES

@@ -1,8 +1,6 @@
 -- `opening` meets its contract: each way on is a law of `Nesting`. Assumes nothing.
-use borrow.Author.Rules.{rules}
 use Rattle.compiler.proofs.Standing.{handed}
 use Rattle.compiler.proofs.Nesting.{opens_on, opens_stop}
-use borrow.Author.Rules.{rules}
 use Rattle.compiler.proofs.steps.opening.Goals as goal
 
 pub returns-then-at-ge-LOOPS : goal.returns-then-at-ge-LOOPS

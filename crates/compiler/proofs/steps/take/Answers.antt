@@ -1,5 +1,4 @@
 -- `take` meets its contract, case by case. Assumes nothing.
-use borrow.Author.Rules.{rules}
 use Rattle.compiler.proofs.Standing.{goes, handed}
 use Rattle.compiler.proofs.steps.take.Goals as goal
 
@@ -20,7 +19,7 @@ returns-in-Blank c =
     rw c.in-Blank.is (λ st h. goes (handed args.loops.now args.ends.now args.settings.now c.going-in-Blank.ensures) h)
 
 pub returns-in-Process : goal.returns-in-Process
-returns-in-Process c = rw c.enum_told-in-Process-1.given.1 (λ st h. c.take_process.ensures c.args.settings.now st _ _ h)
+returns-in-Process c = rw c.in-Process.is (λ st h. c.take_process.ensures c.args.settings.now st _ _ h)
 
 pub returns-in-Ex : goal.returns-in-Ex
 returns-in-Ex c =

@@ -1,8 +1,6 @@
 -- `take_encode` meets its contract by a law of `Setting`. Assumes nothing.
-use borrow.Author.Rules.{rules}
 use lib.ListN.{set}
 use Rattle.compiler.proofs.Setting.{set_heads, encode_in, encode_on}
-use borrow.Author.Rules.{rules}
 use Rattle.compiler.proofs.steps.take_encode.Goals as goal
 
 pub returns : goal.returns

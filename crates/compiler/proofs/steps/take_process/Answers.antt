@@ -1,8 +1,6 @@
 -- `take_process` meets its contract: each way on is a law of `Beginning`. Assumes nothing.
-use borrow.Author.Rules.{rules}
 use Rattle.compiler.proofs.Standing.{handed}
 use Rattle.compiler.proofs.Beginning.{open_stop, process_next, process_first}
-use borrow.Author.Rules.{rules}
 use Rattle.compiler.proofs.steps.take_process.Goals as goal
 
 pub returns-then-opened-gt0 : goal.returns-then-opened-gt0

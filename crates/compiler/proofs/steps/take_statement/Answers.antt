@@ -10,7 +10,7 @@ use Rattle.language.specs.Cell.{coded}
 use Rattle.compiler.proofs.Standing.{handed}
 use Rattle.compiler.proofs.Writing.{sized, too_much, not_nested, statement_on, room_on}
 use Rattle.compiler.proofs.steps.take_statement.Goals as goal
-use Rattle.compiler.proofs.steps.take_statement.Goals.{After-count-size, After-write-arg-1}
+use Rattle.compiler.proofs.steps.take_statement.Goals.{After-count-size, After-code-word}
 
 -- the data have room in the lent bytes
 few : (c : After-count-size) → c.count-size.result ≤ 128
@@ -19,17 +19,13 @@ few c =
     c.requires.1
 
 -- as many bytes are taken from the lent ones
-lent-long : (c : After-write-arg-1)
-    → let at_entry_lem = c in
-    length at_entry_lem.args.lent.now ≡ 128
-lent-long c = search rules
+lent_long : (c : After-code-word) → length c.args.lent.now ≡ 128
+lent_long c = search rules
 
-held : (c : After-write-arg-1)
-    → let at_count = c in
-    let at_entry_lem = at_count.before.before in
-    length (take at_count.count.result at_entry_lem.args.lent.now) ≡ at_count.count.result
+held : (c : After-code-word) → length (take c.count-size.result c.args.lent.now) ≡ c.count-size.result
 held c =
-    length-take-le c.count-size.result c.args.lent.now (omega (arith, few at_count, lent-long c))
+    let most = sized c.args.cell c.needs_of-asked.result c.count-size.ensures c.needs_of-asked.ensures c.requires.1 in
+    length-take-le c.count-size.result c.args.lent.now (omega (arith, most, lent_long c))
 
 pub overflow_add-used : goal.overflow_add-used
 overflow_add-used c = omega (arith, few (goal.at.overflow_add-used c).After-count-size)
@@ -46,7 +42,7 @@ pub write-requires : goal.write-requires
 write-requires c =
     room_on c.nested-open.result _ _ [] [] (take c.count-size.result c.args.lent.now)
     (c.nested-open.ensures [] []) c.requires.0
-    (rw (held (goal.at.write-requires c).After-write-arg-1) c.if-used-size-gt-DATA.false)
+    (rw (held (goal.at.write-requires c).After-code-word) c.if-used-size-gt-DATA.false)
 
 pub returns-in-Stop : goal.returns-in-Stop
 returns-in-Stop c =
@@ -59,4 +55,4 @@ returns-in-Going c =
     c.if-used-size-gt-DATA.false (c.nested-open.ensures c.args.ends.now settings) _ _ _
     c.in-Going.is (c.code-word.ensures ∙ ap coded
     c.placed.ensures)
-    (c.write.ensures _ settings) (handed _ _ settings c.going.ensures) (omega (arith, few (goal.at.returns-in-Going c).After-count-size, lent-long (goal.at.returns-in-Going c).After-write-arg-1))
+    (c.write.ensures _ settings) (handed _ _ settings c.going.ensures) (omega (arith, few (goal.at.returns-in-Going c).After-count-size, lent_long (goal.at.returns-in-Going c).After-code-word))

@@ -1,8 +1,6 @@
 -- `take_stopbits` meets its contract by a law of `Setting`. Assumes nothing.
-use borrow.Author.Rules.{rules}
 use lib.ListN.{set}
 use Rattle.compiler.proofs.Setting.{set_heads, stopbits_in, stopbits_on}
-use borrow.Author.Rules.{rules}
 use Rattle.compiler.proofs.steps.take_stopbits.Goals as goal
 
 pub returns : goal.returns
