@@ -10,7 +10,6 @@ use Rattle.process.specs.declared.Wait.{Wait}
 use Rattle.process.specs.declared.Wait.TheVariants.{Ready, Over, Ticks, Data}
 use Rattle.process.specs.declared.Process.{Process}
 use Rattle.process.specs.declared.State.{State}
-use Rattle.process.specs.declared.RunRefusal.TheVariants.{Busy, BadReading, NoSuchSignal, BadTable}
 use Rattle.process.specs.declared.Received.{Received}
 use Rattle.process.specs.declared.Received.TheVariants.{Took, Refused}
 use Rattle.process.specs.declared.Taken.{Taken}
@@ -18,7 +17,7 @@ use Rattle.process.specs.declared.Taken.TheVariants as taken
 use Rattle.process.specs.Matching as matching
 use Rattle.process.specs.Waiting as waiting
 use Rattle.process.specs.State.{run_refusal_number, busy}
-use Rattle.events.specs.Events.{tick_event, reading_right, reading_event, level_event}
+use Rattle.events.specs.Events.{reading_right, level_event}
 use Rattle.events.specs.Recording.{one_of, times_recorded}
 use Rattle.events.specs.Receiving.{ranges_right, byte_event}
 

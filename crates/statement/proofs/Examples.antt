@@ -1,6 +1,6 @@
 -- Damaged tables and states, computed: each place, loop or data range that leaves the table, and each neighbour that does not. A process that is
 -- not found is answered 25 (`drained`). Assumes nothing.
-use Rattle.std.proofs.Common.{◌≡◌, ℕ, Bool, true, false, List, [], ◌∷◌, ◌++◌, replicate, refl}
+use Rattle.std.proofs.Common.{◌≡◌, ℕ, Bool, true, false, List, [], ◌∷◌, replicate, refl}
 use Rattle.language.specs.Right as right
 use Rattle.language.specs.Clock as clocks
 use Rattle.language.specs.Cell as cell

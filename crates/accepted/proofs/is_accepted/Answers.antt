@@ -3,7 +3,6 @@ use mathlib.Core.Path.{refl}
 use mir.Syntax.{w8}
 use mir.Val.{Fits}
 use lib.ListN.{get_or}
-use Rattle.language.specs.declared.Table.{Table}
 use Rattle.language.proofs.Bytes.{are_bytes}
 use Rattle.accepted.proofs.Laying.{Typed}
 use Rattle.accepted.proofs.Passing.{Bytes}

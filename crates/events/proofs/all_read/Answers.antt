@@ -1,11 +1,10 @@
 -- `events::all_read` meets its contract: the first i processes are done, the others are as they were. Assumes nothing.
 use mathlib.Core.Path.{◌≡◌, ◌∙◌}
-use Prim.Native.Nat.{◌≤◌, ◌-◌}
 use native.Mathlib.Omega.{arith}
 use lib.ListN.{length}
 use borrow.Author.Rules.{rules}
 use Rattle.process.specs.Waiting.{reading_taken}
-use Rattle.process.proofs.Loops.{done, done_more, done_all}
+use Rattle.process.proofs.Loops.{done_more, done_all}
 use Rattle.events.proofs.all_read.Goals as goal
 
 pub loop-i-preserved : goal.loop-i-preserved

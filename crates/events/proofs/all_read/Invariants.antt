@@ -1,11 +1,8 @@
 -- `events::all_read` meets its contract: the first i processes are done, the others are as they were. Assumes nothing.
-use mathlib.Core.Path.{◌≡◌, ◌∙◌}
+use mathlib.Core.Path.{◌≡◌}
 use Prim.Native.Nat.{◌≤◌, ◌-◌}
-use native.Mathlib.Omega.{arith}
-use lib.ListN.{length}
-use borrow.Author.Rules.{rules}
 use Rattle.process.specs.Waiting.{reading_taken}
-use Rattle.process.proofs.Loops.{done, done_more, done_all}
+use Rattle.process.proofs.Loops.{done}
 use Rattle.events.proofs.all_read.Given as goal
 
 abbrev pub invariant-loop-i : goal.invariant-loop-i

@@ -1,7 +1,6 @@
 -- `events::read_clock` meets its contract. Assumes nothing.
 use mathlib.Core.Path.{sym, ◌∙◌}
 use Rattle.events.proofs.EventCases.{reading_busy, reading_takes, reading_wrong}
-use borrow.Author.Rules.{rules}
 use Rattle.events.proofs.read_clock.Goals as goal
 
 pub returns-then-any_ready : goal.returns-then-any_ready

@@ -3,7 +3,6 @@ use mathlib.Core.Path.{ap, ap₂, ◌∙◌}
 use mathlib.Core.Bool.{Bool, ◌&&◌}
 use lib.Dec.{leb}
 use Rattle.events.specs.Events.{reading_right}
-use borrow.Author.Rules.{rules}
 use Rattle.events.proofs.reading_right.Goals as goal
 
 pub returns : goal.returns

@@ -1,7 +1,6 @@
 -- `events::set_level` meets its contract. Assumes nothing.
 use mathlib.Core.Path.{sym, ◌∙◌}
 use Rattle.events.proofs.EventCases.{level_busy, level_takes, level_none}
-use borrow.Author.Rules.{rules}
 use Rattle.events.proofs.set_level.Goals as goal
 
 pub returns-then-any_ready : goal.returns-then-any_ready

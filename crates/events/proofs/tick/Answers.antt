@@ -1,7 +1,6 @@
 -- `events::tick` meets its contract. Assumes nothing.
 use mathlib.Core.Path.{sym, ◌∙◌}
 use Rattle.events.proofs.EventCases.{tick_busy, tick_takes}
-use borrow.Author.Rules.{rules}
 use Rattle.events.proofs.tick.Goals as goal
 
 pub returns-then-any_ready : goal.returns-then-any_ready

@@ -1,7 +1,6 @@
 -- `events::tick_run` meets its contract. Assumes nothing.
 use mathlib.Core.Path.{sym, ◌∙◌}
 use Rattle.events.proofs.GulpsReach.{ticks_busy, ticks_take}
-use borrow.Author.Rules.{rules}
 use Rattle.events.proofs.tick_run.Goals as goal
 
 pub returns-then-any_ready : goal.returns-then-any_ready

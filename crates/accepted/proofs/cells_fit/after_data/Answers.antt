@@ -1,7 +1,6 @@
 -- `accepted::cells_fit::after_data` meets its contract. Assumes nothing.
 use Rattle.language.specs.Right.{data_right}
 use Rattle.accepted.proofs.Data.{elsewhere, not_right, all_right_lem}
-use borrow.Author.Rules.{rules}
 use Rattle.accepted.proofs.cells_fit.after_data.Goals as goal
 
 pub returns-then-from-at : goal.returns-then-from-at

@@ -1,6 +1,5 @@
 -- `accepted::cells_fit::cells_right` meets its contract. Assumes nothing.
 use Rattle.accepted.proofs.Fitting.{cells_not, other_end, too_much, cells_behind, cells_clean}
-use borrow.Author.Rules.{rules}
 use Rattle.accepted.proofs.cells_fit.cells_right.Goals as goal
 
 pub returns-then-used-end : goal.returns-then-used-end

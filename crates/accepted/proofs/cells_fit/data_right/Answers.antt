@@ -5,7 +5,6 @@ use Rattle.reader.specs.Bytes.{all}
 use Rattle.language.specs.Right.{is_byte}
 use Rattle.language.proofs.Bytes.{are_bytes}
 use Rattle.accepted.proofs.Data.{data_long, data_hex, data_short, data_text_lem}
-use borrow.Author.Rules.{rules}
 use Rattle.accepted.proofs.cells_fit.data_right.Goals as goal
 use Rattle.accepted.proofs.cells_fit.data_right.Goals.{After-shared_slice_known-1}
 

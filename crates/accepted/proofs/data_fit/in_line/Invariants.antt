@@ -1,12 +1,9 @@
 -- `in_line` meets its contract: the bytes from i on decide. Assumes nothing.
-use mathlib.Core.Path.{◌≡◌, refl, sym, ◌∙◌}
+use mathlib.Core.Path.{◌≡◌}
 use Prim.Native.Nat.{◌-◌}
-use borrow.Author.Rules.{rules}
 use lib.ListN.{length, drop}
 use Rattle.reader.specs.Bytes.{all}
 use Rattle.language.specs.Right.{in_line}
-use Rattle.reader.proofs.Each.{each_past, each_not, each_end}
-use Rattle.accepted.proofs.Held.{stays, ends_line}
 use Rattle.accepted.proofs.data_fit.in_line.Given as goal
 
 abbrev pub invariant-loop-i : goal.invariant-loop-i

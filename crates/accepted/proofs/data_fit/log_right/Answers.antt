@@ -1,6 +1,5 @@
 -- `log_right` meets its contract. Assumes nothing.
 use Rattle.accepted.proofs.Held.{log_long, log_unsigned, log_signed}
-use borrow.Author.Rules.{rules}
 use Rattle.accepted.proofs.data_fit.log_right.Goals as goal
 
 pub returns-then-text-gt-LOG_ROOM : goal.returns-then-text-gt-LOG_ROOM

@@ -1,6 +1,5 @@
 -- `accepted::ends::cells_in_use` meets its contract. Assumes nothing.
 use Rattle.accepted.proofs.EndsFit.{no_process, many_processes, ends_behind, ends_clean}
-use borrow.Author.Rules.{rules}
 use Rattle.accepted.proofs.ends.cells_in_use.Goals as goal
 
 pub returns-then-processes-lt1 : goal.returns-then-processes-lt1

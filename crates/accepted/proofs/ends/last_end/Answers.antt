@@ -1,10 +1,7 @@
 -- `accepted::ends::last_end` meets its contract: the ends from i on decide. Assumes nothing.
 use mathlib.Core.Path.{refl}
-use Prim.Native.Nat.{◌-◌}
 use native.Mathlib.Omega.{arith}
-use borrow.Author.Rules.{rules}
-use lib.ListN.{length}
-use Rattle.accepted.proofs.EndsFit.{Passing, pass_enough, pass_past, pass_falls, pass_leaves, pass_on}
+use Rattle.accepted.proofs.EndsFit.{pass_enough, pass_past, pass_falls, pass_leaves, pass_on}
 use Rattle.accepted.proofs.ends.last_end.Goals as goal
 
 pub loop-i-init : goal.loop-i-init

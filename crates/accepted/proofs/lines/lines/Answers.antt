@@ -1,10 +1,8 @@
 -- `accepted::lines::lines` meets its contract. Assumes nothing.
 use Prim.Native.Nat.{ℕ, ◌+◌, ◌-◌}
 use mathlib.Core.Path.{sym, ap, ap₂, ◌∙◌}
-use native.Mathlib.Omega.{arith}
 use Rattle.accepted.specs.Inside.Heads.{count_if}
 use Rattle.accepted.specs.Inside.Lines.{lines_in}
-use borrow.Author.Rules.{rules}
 use Rattle.accepted.proofs.lines.lines.Goals as goal
 
 pub returns : goal.returns

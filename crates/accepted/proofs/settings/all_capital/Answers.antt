@@ -1,9 +1,5 @@
 -- `accepted::settings::all_capital` meets its contract: the bytes from i on decide. Assumes nothing.
-use mathlib.Core.Path.{◌≡◌, refl, sym, ◌∙◌}
-use Prim.Native.Nat.{◌-◌}
-use borrow.Author.Rules.{rules}
-use lib.ListN.{length, drop}
-use Rattle.reader.specs.Bytes.{all}
+use mathlib.Core.Path.{refl, sym, ◌∙◌}
 use Rattle.language.specs.Meaning.{is_capital}
 use Rattle.reader.proofs.Each.{each_past, each_not, each_end}
 use Rattle.accepted.proofs.settings.all_capital.Goals as goal

@@ -1,11 +1,9 @@
 -- `accepted::settings::all_capital` meets its contract: the bytes from i on decide. Assumes nothing.
-use mathlib.Core.Path.{◌≡◌, refl, sym, ◌∙◌}
+use mathlib.Core.Path.{◌≡◌}
 use Prim.Native.Nat.{◌-◌}
-use borrow.Author.Rules.{rules}
 use lib.ListN.{length, drop}
 use Rattle.reader.specs.Bytes.{all}
 use Rattle.language.specs.Meaning.{is_capital}
-use Rattle.reader.proofs.Each.{each_past, each_not, each_end}
 use Rattle.accepted.proofs.settings.all_capital.Given as goal
 
 abbrev pub invariant-loop-i : goal.invariant-loop-i

@@ -1,5 +1,4 @@
 -- `accepted::settings::encode_fits` meets its contract. Assumes nothing.
-use borrow.Author.Rules.{rules}
 use Rattle.accepted.proofs.settings.encode_fits.Goals as goal
 
 pub returns : goal.returns

@@ -1,6 +1,5 @@
 -- `accepted::settings::extension_fits` meets its contract. Assumes nothing.
 use Rattle.accepted.proofs.Extension.{letters_count, no_letters, many_letters, small_letters, right_letters}
-use borrow.Author.Rules.{rules}
 use Rattle.accepted.proofs.settings.extension_fits.Goals as goal
 
 pub returns-then-count-eq0 : goal.returns-then-count-eq0

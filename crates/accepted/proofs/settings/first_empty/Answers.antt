@@ -1,6 +1,5 @@
 -- `accepted::settings::first_empty` meets its contract. Assumes nothing.
 use Rattle.accepted.specs.Inside.Heads.{first_empty}
-use borrow.Author.Rules.{rules}
 use Rattle.accepted.proofs.settings.first_empty.Goals as goal
 
 pub returns : goal.returns

@@ -1,9 +1,6 @@
 -- `accepted::settings::letters` meets its contract: no zero stands before i. Assumes nothing.
 use native.Mathlib.Omega.{arith}
-use Prim.Native.Nat.{◌-◌}
-use borrow.Author.Rules.{rules}
-use lib.ListN.{length}
-use Rattle.accepted.proofs.Extension.{Lettering, letters_past, letters_end, letters_on}
+use Rattle.accepted.proofs.Extension.{letters_past, letters_end, letters_on}
 use Rattle.accepted.proofs.settings.letters.Goals as goal
 
 pub loop-i-init : goal.loop-i-init

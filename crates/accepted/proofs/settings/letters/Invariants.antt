@@ -1,9 +1,7 @@
 -- `accepted::settings::letters` meets its contract: no zero stands before i. Assumes nothing.
-use native.Mathlib.Omega.{arith}
 use Prim.Native.Nat.{◌-◌}
-use borrow.Author.Rules.{rules}
 use lib.ListN.{length}
-use Rattle.accepted.proofs.Extension.{Lettering, letters_past, letters_end, letters_on}
+use Rattle.accepted.proofs.Extension.{Lettering}
 use Rattle.accepted.proofs.settings.letters.Given as goal
 
 abbrev pub invariant-loop-i : goal.invariant-loop-i

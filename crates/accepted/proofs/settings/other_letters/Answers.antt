@@ -1,6 +1,5 @@
 -- `accepted::settings::other_letters` meets its contract. Assumes nothing.
 use Rattle.accepted.proofs.Extension.{is_log_lem, is_other}
-use borrow.Author.Rules.{rules}
 use Rattle.accepted.proofs.settings.other_letters.Goals as goal
 
 pub returns-then-is_named : goal.returns-then-is_named

@@ -3,7 +3,6 @@ use Prim.Native.Nat.{◌+◌}
 use mathlib.Core.Path.{ap, ap₂, ◌∙◌}
 use native.Mathlib.Omega.{arith}
 use Rattle.accepted.specs.Inside.Heads.{count_if, settings_in}
-use borrow.Author.Rules.{rules}
 use Rattle.accepted.proofs.settings.setting_lines.Goals as goal
 
 pub returns : goal.returns

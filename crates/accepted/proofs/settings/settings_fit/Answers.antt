@@ -1,6 +1,5 @@
 -- `accepted::settings::settings_fit` meets its contract. Assumes nothing.
 use Rattle.accepted.proofs.Setting.{settings_are}
-use borrow.Author.Rules.{rules}
 use Rattle.accepted.proofs.settings.settings_fit.Goals as goal
 
 pub returns : goal.returns

@@ -1,11 +1,9 @@
 -- `accepted::zeros::bytes_zero` meets its contract: the flag and the elements from i on decide. Assumes nothing.
-use mathlib.Core.Path.{◌≡◌, refl}
+use mathlib.Core.Path.{◌≡◌}
 use mathlib.Core.Bool.{◌&&◌}
 use Prim.Native.Nat.{◌-◌}
-use borrow.Author.Rules.{rules}
 use lib.ListN.{length, drop}
 use Rattle.accepted.specs.Inside.Heads.{all_zero}
-use Rattle.accepted.proofs.AllZero.{zero_on, zero_end}
 use Rattle.accepted.proofs.zeros.bytes_zero.Given as goal
 
 abbrev pub invariant-loop-i : goal.invariant-loop-i

@@ -1,12 +1,9 @@
 -- `accepted::zeros::ends_zero` meets its contract: the flag and the ends from i on decide. Assumes nothing.
-use mathlib.Core.Path.{◌≡◌, refl}
+use mathlib.Core.Path.{◌≡◌}
 use mathlib.Core.Bool.{◌&&◌}
 use Prim.Native.Nat.{◌-◌}
-use native.Mathlib.Omega.{arith}
-use borrow.Author.Rules.{rules}
-use lib.ListN.{length, drop}
+use lib.ListN.{drop}
 use Rattle.accepted.specs.Inside.Heads.{all_zero}
-use Rattle.accepted.proofs.AllZero.{zero_on, zero_end}
 use Rattle.accepted.proofs.zeros.ends_zero.Given as goal
 
 abbrev pub invariant-loop-i : goal.invariant-loop-i

@@ -1,10 +1,5 @@
 -- `accepted::zeros::words_zero` meets its contract: the flag and the elements from i on decide. Assumes nothing.
-use mathlib.Core.Path.{◌≡◌, refl}
-use mathlib.Core.Bool.{◌&&◌}
-use Prim.Native.Nat.{◌-◌}
-use borrow.Author.Rules.{rules}
-use lib.ListN.{length, drop}
-use Rattle.accepted.specs.Inside.Heads.{all_zero}
+use mathlib.Core.Path.{refl}
 use Rattle.accepted.proofs.AllZero.{zero_on, zero_end}
 use Rattle.accepted.proofs.zeros.words_zero.Goals as goal
 

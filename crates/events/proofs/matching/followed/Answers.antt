@@ -1,9 +1,7 @@
 -- `events::matching::followed` meets its contract. Invariant: b leaves matched after j bytes what it leaves after k. Assumes nothing.
-use mathlib.Core.Path.{◌≡◌, sym, ◌∙◌}
-use Prim.Native.Nat.{◌≤◌, ◌<◌}
+use mathlib.Core.Path.{sym, ◌∙◌}
+use Prim.Native.Nat.{◌<◌}
 use native.Mathlib.Omega.{arith}
-use borrow.Author.Rules.{rules}
-use Rattle.process.specs.Matching.{advance}
 use Rattle.events.proofs.Links.{advance_hit, advance_none, advance_link, linked_below}
 use Rattle.events.proofs.matching.followed.Goals as goal
 

@@ -1,5 +1,4 @@
 -- `events::matching::linked` meets its contract. Assumes nothing.
-use borrow.Author.Rules.{rules}
 use Rattle.events.proofs.Kept.{cleared}
 use Rattle.events.proofs.matching.linked.Goals as goal
 

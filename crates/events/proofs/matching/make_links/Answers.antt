@@ -1,10 +1,7 @@
 -- `events::matching::make_links` meets its contract. Invariant: the links up to i are there. Assumes nothing.
-use mathlib.Core.Path.{◌≡◌, refl}
-use Prim.Native.Nat.{◌-◌, ◌≤◌, ◌<◌}
+use mathlib.Core.Path.{refl}
 use native.Mathlib.Omega.{arith}
 use borrow.Author.Rules.{rules}
-use lib.ListN.{length}
-use Rattle.events.specs.Inside.Links.{Linked}
 use Rattle.events.proofs.Links.{advance_le, linked_fewer, linked_below, linked_more}
 use Rattle.events.proofs.Kept.{told, told_kept}
 use Rattle.events.proofs.matching.make_links.Goals as goal

@@ -7,7 +7,6 @@ use lib.ListN.{drop, length-drop, drop_of_length-le}
 use Rattle.events.specs.declared.matching.Matched.{Matched}
 use Rattle.events.specs.Inside.Passing.{farther, matched_on}
 use Rattle.events.proofs.DataPassed.{rest_is, matched_few, matched_whole, matched_end}
-use borrow.Author.Rules.{rules}
 use Rattle.events.proofs.matching.matched_run.Goals as goal
 
 pub returns-then-first-want : goal.returns-then-first-want

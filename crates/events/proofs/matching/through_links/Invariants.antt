@@ -1,12 +1,8 @@
 -- `events::matching::through_links` meets its contract. Assumes nothing.
-use borrow.Author.Rules.{rules}
 use mathlib.Core.Path.{◌≡◌}
-use Prim.Native.Nat.{◌+◌, ◌-◌, ◌≤◌, ◌<◌}
-use native.Mathlib.Omega.{arith}
-use lib.ListN.{length, drop, drop_of_length-le}
+use Prim.Native.Nat.{◌+◌, ◌-◌, ◌≤◌}
+use lib.ListN.{length, drop}
 use Rattle.events.specs.Inside.Passing.{farther, matched_on}
-use Rattle.events.proofs.Links.{advance_le}
-use Rattle.events.proofs.DataPassed.{begun, matched_on_lem, matched_whole, matched_end}
 use Rattle.events.proofs.matching.through_links.Given as goal
 
 abbrev pub invariant-loop-i : goal.invariant-loop-i

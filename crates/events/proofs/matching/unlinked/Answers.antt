@@ -1,8 +1,6 @@
 -- `events::matching::unlinked` meets its contract. Assumes nothing.
-use borrow.Author.Rules.{rules}
 use mathlib.Core.Path.{◌≡◌, ◌∙◌}
-use Prim.Native.Nat.{ℕ, ◌+◌, ◌-◌, ◌≤◌, ◌<◌}
-use mathlib.Core.Logic.{⊎_elim}
+use Prim.Native.Nat.{ℕ, ◌+◌, ◌<◌}
 use native.Mathlib.Omega.{arith}
 use lib.ListN.{length, get_or, drop}
 use Rattle.process.specs.Matching.{advance}
@@ -35,8 +33,8 @@ loop-i-preserved c =
     λ j e. matched_on_lem a.want.now a.from l.i l.k a.run.now l.invariant.2 part inside e
     in
     elim c.if-want-k.branch [
-      then-want-k w ↦ (omega arith, omega (arith, w.k-is), on _ (w.k-is ∙ advance_hit _ l.k _ part w.if-want-k.true))
-    | else-want-k+else-k-ne0 w ↦ (omega arith, omega (arith, w.k-is), on _ (w.k-is ∙ w.if-k-ne0.false ∙ advance_none _ l.k _ part w.if-want-k.false w.if-k-ne0.false))
+      | then-want-k w ↦ (omega arith, omega (arith, w.k-is), on _ (w.k-is ∙ advance_hit _ l.k _ part w.if-want-k.true))
+      | else-want-k+else-k-ne0 w ↦ (omega arith, omega (arith, w.k-is), on _ (w.k-is ∙ w.if-k-ne0.false ∙ advance_none _ l.k _ part w.if-want-k.false w.if-k-ne0.false))
     ]
 
 pub returns : goal.returns

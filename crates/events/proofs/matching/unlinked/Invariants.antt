@@ -1,14 +1,8 @@
 -- `events::matching::unlinked` meets its contract. Assumes nothing.
-use borrow.Author.Rules.{rules}
-use mathlib.Core.Path.{◌≡◌, ◌∙◌}
-use Prim.Native.Nat.{ℕ, ◌+◌, ◌-◌, ◌≤◌, ◌<◌}
-use mathlib.Core.Logic.{⊎_elim}
-use native.Mathlib.Omega.{arith}
-use lib.ListN.{length, get_or, drop}
-use Rattle.process.specs.Matching.{advance}
+use mathlib.Core.Path.{◌≡◌}
+use Prim.Native.Nat.{◌-◌, ◌≤◌}
+use lib.ListN.{length, drop}
 use Rattle.events.specs.Inside.Passing.{farther, matched_on}
-use Rattle.events.proofs.Links.{advance_hit, advance_none}
-use Rattle.events.proofs.DataPassed.{begun, matched_on_lem}
 use Rattle.events.proofs.matching.unlinked.Given as goal
 
 abbrev pub invariant-loop-i : goal.invariant-loop-i

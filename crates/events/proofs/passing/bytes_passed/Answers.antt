@@ -4,7 +4,6 @@ use native.Mathlib.Omega.{arith}
 use Rattle.events.specs.Inside.Passing.{at_least1}
 use Rattle.events.proofs.WaitsPassed.{least_over}
 use Rattle.events.proofs.DataPassed.{bytes_end, bytes_stay}
-use borrow.Author.Rules.{rules}
 use Rattle.events.proofs.passing.bytes_passed.Goals as goal
 
 pub overflow_sub-result : goal.overflow_sub-result

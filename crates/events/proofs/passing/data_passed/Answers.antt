@@ -8,7 +8,6 @@ use Rattle.events.specs.declared.matching.Matched.{Matched}
 use Rattle.events.specs.Inside.Passing.{matched_on}
 use Rattle.events.proofs.DataCases.{within_pool, within_data}
 use Rattle.events.proofs.DataPassed.{matched_most, data_whole, data_part}
-use borrow.Author.Rules.{rules}
 use Rattle.events.proofs.passing.data_passed.Goals as goal
 
 pub awaited_data-want-requires : goal.awaited_data-want-requires

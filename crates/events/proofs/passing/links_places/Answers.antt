@@ -1,5 +1,4 @@
 -- `events::passing::links_places` meets its contract. Assumes nothing.
-use borrow.Author.Rules.{rules}
 use Rattle.events.proofs.Kept.{places_short, places_there}
 use Rattle.events.proofs.passing.links_places.Goals as goal
 

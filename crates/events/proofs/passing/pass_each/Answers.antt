@@ -1,16 +1,14 @@
 -- `events::passing::pass_each` meets its contract: i processes have gone through the run, each no farther than those before it. Assumes nothing.
 use mathlib.Core.Path.{◌≡◌, refl, ◌∙◌}
-use mathlib.Core.Logic.{⊎_elim}
 use Prim.Native.Nat.{◌+◌, ◌-◌, ◌≤◌, ◌<◌}
 use native.Mathlib.Omega.{arith}
 use lib.ListN.{length, take, drop}
 use borrow.Author.Rules.{rules}
 use Rattle.reader.proofs.Each.{each_at}
 use Rattle.process.specs.Waiting.{ready, range_right, byte_taken}
-use Rattle.events.specs.Inside.Kept.{KeptFrom, begins}
 use Rattle.events.proofs.Kept.{places_few, begins_first, kept_at, turn}
 use Rattle.events.proofs.Reach.{none_passes}
-use Rattle.events.proofs.Together.{Going, going_begun, goes_on_lem, goes_less, going_done}
+use Rattle.events.proofs.Together.{going_begun, goes_on_lem, goes_less, going_done}
 use Rattle.events.proofs.passing.pass_each.Goals as goal
 use Rattle.events.proofs.passing.pass_each.Goals.{then-r-n, else-r-n, After-wait_passed-r, At-loop-i}
 
@@ -62,8 +60,8 @@ loop-i-preserved c =
     let k : l.from + c.places_for.result - l.from ≡ c.places_for.result = omega arith in
     let t = turn a.pool.now l.links _ a.ps l.i _ (omega arith) l.invariant.2 c.places_for.ensures k (same_places (goal.at.loop-i-preserved c).After-wait_passed-r) c.wait_passed-r.ensures.1 l.invariant.5 in
     elim c.if-r-n.branch [
-      then-r-n w ↦ (omega arith, goes_less a.pool.now a.run.now a.ps l.i l.next l.n l.again _ l.invariant.1 (omega arith) c.first.ensures.0 c.wait_passed-r.ensures.0 c.with.ensures w.again-is w.if-r-n.true, t.0, t.1, t.2 ∙ l.invariant.4, t.3)
-    | else-r-n w ↦ (omega arith, rw w.again-is (goes_on_lem a.pool.now a.run.now a.ps l.i l.next l.n l.again _ l.invariant.1 (omega arith) c.first.ensures.0 c.wait_passed-r.ensures.0 c.with.ensures (λ e. omega (arith, w.if-r-n.false))), t.0, t.1, t.2 ∙ l.invariant.4, t.3)
+      | then-r-n w ↦ (omega arith, goes_less a.pool.now a.run.now a.ps l.i l.next l.n l.again _ l.invariant.1 (omega arith) c.first.ensures.0 c.wait_passed-r.ensures.0 c.with.ensures w.again-is w.if-r-n.true, t.0, t.1, t.2 ∙ l.invariant.4, t.3)
+      | else-r-n w ↦ (omega arith, rw w.again-is (goes_on_lem a.pool.now a.run.now a.ps l.i l.next l.n l.again _ l.invariant.1 (omega arith) c.first.ensures.0 c.wait_passed-r.ensures.0 c.with.ensures (λ e. omega (arith, w.if-r-n.false))), t.0, t.1, t.2 ∙ l.invariant.4, t.3)
     ]
 
 pub returns : goal.returns

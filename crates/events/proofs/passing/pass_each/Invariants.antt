@@ -1,16 +1,9 @@
 -- `events::passing::pass_each` meets its contract: i processes have gone through the run, each no farther than those before it. Assumes nothing.
-use mathlib.Core.Path.{◌≡◌, refl, ◌∙◌}
-use mathlib.Core.Logic.{⊎_elim}
-use Prim.Native.Nat.{◌+◌, ◌-◌, ◌≤◌, ◌<◌}
-use native.Mathlib.Omega.{arith}
-use lib.ListN.{length, take, drop}
-use borrow.Author.Rules.{rules}
-use Rattle.reader.proofs.Each.{each_at}
-use Rattle.process.specs.Waiting.{ready, range_right, byte_taken}
+use mathlib.Core.Path.{◌≡◌}
+use Prim.Native.Nat.{◌-◌, ◌≤◌}
+use lib.ListN.{length}
 use Rattle.events.specs.Inside.Kept.{KeptFrom, begins}
-use Rattle.events.proofs.Kept.{places_few, begins_first, kept_at, turn}
-use Rattle.events.proofs.Reach.{none_passes}
-use Rattle.events.proofs.Together.{Going, going_begun, goes_on_lem, goes_less, going_done}
+use Rattle.events.proofs.Together.{Going}
 use Rattle.events.proofs.passing.pass_each.Given as goal
 
 abbrev pub invariant-loop-i : goal.invariant-loop-i

@@ -1,7 +1,6 @@
 -- `events::passing::pass_run` meets its contract: the second time finds what the first has kept. Assumes nothing.
 use Rattle.events.proofs.Kept.{all_cleared}
 use Rattle.events.proofs.Together.{passes_most, passes_again}
-use borrow.Author.Rules.{rules}
 use Rattle.events.proofs.passing.pass_run.Goals as goal
 
 pub pass_each-r-requires : goal.pass_each-r-requires

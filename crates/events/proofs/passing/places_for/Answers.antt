@@ -1,6 +1,5 @@
 -- `events::passing::places_for` meets its contract. Assumes nothing.
 use mathlib.Core.Path.{sym, ap, ◌∙◌}
-use borrow.Author.Rules.{rules}
 use Rattle.process.specs.declared.Wait.{Wait}
 use Rattle.events.specs.Inside.Kept.{places_for}
 use Rattle.events.proofs.Kept.{places_none}

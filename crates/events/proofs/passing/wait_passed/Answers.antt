@@ -6,7 +6,6 @@ use Rattle.events.specs.Inside.Passing.{byte_on, passed_by}
 use Rattle.events.proofs.DataCases.{others_stay}
 use Rattle.events.proofs.DataPassed.{passed_all}
 use Rattle.events.proofs.Reach.{stays_reach, stays_through}
-use borrow.Author.Rules.{rules}
 use borrow.Enum.Refused.{opened}
 use Rattle.events.proofs.passing.wait_passed.Goals as goal
 

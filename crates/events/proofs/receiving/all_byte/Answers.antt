@@ -1,11 +1,10 @@
 -- `events::receiving::all_byte` meets its contract: the first i processes are done, the others are as they were. Assumes nothing.
 use mathlib.Core.Path.{◌≡◌, ◌∙◌}
-use Prim.Native.Nat.{◌≤◌, ◌-◌}
 use native.Mathlib.Omega.{arith}
 use lib.ListN.{length}
 use borrow.Author.Rules.{rules}
 use Rattle.process.specs.Waiting.{byte_taken, range_right}
-use Rattle.process.proofs.Loops.{every_done, done, done_more, done_all}
+use Rattle.process.proofs.Loops.{every_done, done_more, done_all}
 use Rattle.events.proofs.receiving.all_byte.Goals as goal
 
 pub take_byte-requires : goal.take_byte-requires

@@ -1,12 +1,10 @@
 -- `events::receiving::all_right` meets its contract: the processes from i on decide. Assumes nothing.
 use mathlib.Core.Path.{◌≡◌, sym, ◌∙◌}
-use Prim.Native.Nat.{◌≤◌, ◌-◌}
 use native.Mathlib.Omega.{arith}
-use lib.ListN.{length, drop}
+use lib.ListN.{length}
 use borrow.Author.Rules.{rules}
 use Rattle.process.specs.Waiting.{range_right}
 use Rattle.reader.proofs.Each.{each_not, each_past, each_end}
-use Rattle.reader.specs.Bytes.{all}
 use Rattle.events.proofs.receiving.all_right.Goals as goal
 
 pub returns-else-range_right : goal.returns-else-range_right

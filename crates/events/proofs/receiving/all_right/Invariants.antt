@@ -1,11 +1,8 @@
 -- `events::receiving::all_right` meets its contract: the processes from i on decide. Assumes nothing.
-use mathlib.Core.Path.{◌≡◌, sym, ◌∙◌}
+use mathlib.Core.Path.{◌≡◌}
 use Prim.Native.Nat.{◌≤◌, ◌-◌}
-use native.Mathlib.Omega.{arith}
-use lib.ListN.{length, drop}
-use borrow.Author.Rules.{rules}
+use lib.ListN.{drop}
 use Rattle.process.specs.Waiting.{range_right}
-use Rattle.reader.proofs.Each.{each_not, each_past, each_end}
 use Rattle.reader.specs.Bytes.{all}
 use Rattle.events.proofs.receiving.all_right.Given as goal
 

@@ -8,7 +8,6 @@ use mathlib.Core.Path.{ap, ap₂, ◌∙◌}
 use native.Mathlib.Omega.{arith}
 use lib.ListN.{length}
 use Rattle.events.proofs.DataCases.{within_pool, within_data}
-use borrow.Author.Rules.{rules}
 use Rattle.events.proofs.receiving.match_byte.Goals as goal
 
 pub awaited_data-want-requires : goal.awaited_data-want-requires

@@ -1,7 +1,6 @@
 -- `events::receiving::matched` meets its contract. Assumes nothing.
 use mathlib.Core.Path.{sym, ◌∙◌}
 use Rattle.events.proofs.DataCases.{match_ends, match_stays}
-use borrow.Author.Rules.{rules}
 use Rattle.events.proofs.receiving.matched.Goals as goal
 
 pub returns-then-k-wide : goal.returns-then-k-wide

@@ -5,7 +5,6 @@ use mathlib.Core.Bool.{◌&&◌}
 use lib.Dec.{leb, ltb}
 use Rattle.language.specs.Limits.{data_limit}
 use Rattle.process.specs.Waiting.{progress_right}
-use borrow.Author.Rules.{rules}
 use Rattle.events.proofs.receiving.progress_right.Goals as goal
 
 pub returns : goal.returns

@@ -1,7 +1,6 @@
 -- `events::receiving::receive` meets its contract. Assumes nothing.
 use mathlib.Core.Path.{sym, ◌∙◌}
 use Rattle.events.proofs.ByteCases.{byte_omits, byte_astray}
-use borrow.Author.Rules.{rules}
 use Rattle.events.proofs.receiving.receive.Goals as goal
 
 pub returns-then-heads-gt-MOST_OMITS : goal.returns-then-heads-gt-MOST_OMITS

@@ -1,7 +1,6 @@
 -- `events::receiving::receive_run` meets its contract. Assumes nothing.
 use mathlib.Core.Path.{sym, ◌∙◌}
 use Rattle.events.proofs.GulpsReach.{bytes_wrong, many_omits, ranges_wrong}
-use borrow.Author.Rules.{rules}
 use Rattle.events.proofs.receiving.receive_run.Goals as goal
 
 pub returns-then-heads-gt-MOST_OMITS : goal.returns-then-heads-gt-MOST_OMITS

@@ -7,7 +7,6 @@ use Rattle.process.specs.declared.Received.TheVariants.{Took}
 use Rattle.process.specs.State.{with_processes}
 use Rattle.events.specs.Receiving.{answered_with}
 use Rattle.events.proofs.ByteCases.{byte_busy, byte_takes}
-use borrow.Author.Rules.{rules}
 use Rattle.events.proofs.receiving.take.Goals as goal
 
 pub returns-then-any_ready : goal.returns-then-any_ready

@@ -1,7 +1,6 @@
 -- `events::receiving::take_byte` meets its contract. Assumes nothing.
 use mathlib.Core.Path.{ap, ◌∙◌}
 use Rattle.process.specs.Waiting.{with_wait}
-use borrow.Author.Rules.{rules}
 use Rattle.events.proofs.receiving.take_byte.Goals as goal
 
 pub returns : goal.returns

@@ -9,7 +9,6 @@ use Rattle.events.specs.Inside.Passing.{each}
 use Rattle.events.proofs.Reach.{reach_le}
 use Rattle.events.proofs.Records.{room_le, part_fits}
 use Rattle.events.proofs.GulpsReach.{bytes_busy, bytes_took, ranges_right_lem}
-use borrow.Author.Rules.{rules}
 use Rattle.events.proofs.receiving.take_run.Goals as goal
 
 pub returns-then-any_ready : goal.returns-then-any_ready

@@ -2,7 +2,6 @@
 use mathlib.Core.Path.{sym, ap, ◌∙◌}
 use Rattle.process.specs.Waiting.{byte_wait, wait_right}
 use Rattle.events.proofs.DataCases.{bytes_end, bytes_stay, others_stay}
-use borrow.Author.Rules.{rules}
 use borrow.Enum.Refused.{opened}
 use Rattle.events.proofs.receiving.wait_byte.Goals as goal
 

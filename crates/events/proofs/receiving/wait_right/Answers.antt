@@ -1,7 +1,6 @@
 -- `events::receiving::wait_right` meets its contract: each arm is given which variant the wait is. Assumes nothing.
 use mathlib.Core.Path.{sym, ap, ◌∙◌}
 use Rattle.process.specs.Waiting.{wait_right}
-use borrow.Author.Rules.{rules}
 use Rattle.events.proofs.receiving.wait_right.Goals as goal
 
 pub returns-in-Data : goal.returns-in-Data

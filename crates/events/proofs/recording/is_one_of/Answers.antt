@@ -1,10 +1,7 @@
 -- `events::recording::is_one_of` meets its contract: the bytes from i on decide. Assumes nothing.
 use mathlib.Core.Path.{refl}
-use Prim.Native.Nat.{◌-◌}
 use native.Mathlib.Omega.{arith}
-use borrow.Author.Rules.{rules}
-use lib.ListN.{length}
-use Rattle.events.proofs.Copying.{Seeking, seek_enough, seek_past, seek_found, seek_on}
+use Rattle.events.proofs.Copying.{seek_enough, seek_past, seek_found, seek_on}
 use Rattle.events.proofs.recording.is_one_of.Goals as goal
 
 pub loop-i-init : goal.loop-i-init

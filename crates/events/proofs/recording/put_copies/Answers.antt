@@ -3,7 +3,6 @@ use mathlib.Core.Path.{◌≡◌}
 use native.Mathlib.Numerals.{add-one}
 use native.Mathlib.Omega.{arith}
 use lib.ListN.{length-set}
-use borrow.Author.Rules.{rules}
 use Rattle.events.proofs.recording.put_copies.Goals as goal
 
 pub bounds-out-at-then-count-eq2 : goal.bounds-out-at-then-count-eq2

@@ -1,10 +1,7 @@
 -- `events::recording::record_run` meets its contract. Assumes nothing.
-use borrow.Author.Rules.{rules}
-use Prim.Native.Nat.{◌≤◌, ◌-◌}
 use native.Mathlib.Omega.{arith}
-use lib.ListN.{length, get_or, drop}
-use Rattle.reader.proofs.Placing.{Placing, begun, renamed, placed}
-use Rattle.events.specs.Inside.Passing.{records_of}
+use lib.ListN.{get_or}
+use Rattle.reader.proofs.Placing.{begun, renamed, placed}
 use Rattle.events.proofs.Copying.{times_few}
 use Rattle.events.proofs.Records.{records_fit, records_on, records_end}
 use Rattle.events.proofs.recording.record_run.Goals as goal

@@ -1,12 +1,8 @@
 -- `events::recording::record_run` meets its contract. Assumes nothing.
-use borrow.Author.Rules.{rules}
 use Prim.Native.Nat.{◌≤◌, ◌-◌}
-use native.Mathlib.Omega.{arith}
-use lib.ListN.{length, get_or, drop}
-use Rattle.reader.proofs.Placing.{Placing, begun, renamed, placed}
+use lib.ListN.{length, drop}
+use Rattle.reader.proofs.Placing.{Placing}
 use Rattle.events.specs.Inside.Passing.{records_of}
-use Rattle.events.proofs.Copying.{times_few}
-use Rattle.events.proofs.Records.{records_fit, records_on, records_end}
 use Rattle.events.proofs.recording.record_run.Given as goal
 
 abbrev pub invariant-loop-i : goal.invariant-loop-i

@@ -1,7 +1,6 @@
 -- `events::recording::recorded` meets its contract. Assumes nothing.
 use mathlib.Core.Path.{sym, ◌∙◌}
 use Rattle.events.proofs.Copying.{none_paused, none_omitted, twice_encoded, once_other, once_plain}
-use borrow.Author.Rules.{rules}
 use Rattle.events.proofs.recording.recorded.Goals as goal
 
 pub returns-then-paused : goal.returns-then-paused

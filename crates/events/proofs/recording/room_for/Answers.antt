@@ -1,10 +1,6 @@
 -- `events::recording::room_for` meets its contract. Assumes nothing.
-use borrow.Author.Rules.{rules}
-use mathlib.Core.Path.{◌≡◌}
-use Prim.Native.Nat.{◌+◌, ◌≤◌, ◌-◌}
 use native.Mathlib.Omega.{arith}
-use lib.ListN.{length, get_or, drop}
-use Rattle.events.specs.Inside.Passing.{room_for}
+use lib.ListN.{get_or, drop}
 use Rattle.events.proofs.Copying.{times_few}
 use Rattle.events.proofs.Records.{room_all, room_next, room_stops, room_end}
 use Rattle.events.proofs.recording.room_for.Goals as goal

@@ -1,10 +1,9 @@
 -- `events::ticking::all_ticks` meets its contract. Assumes nothing.
 use borrow.Author.Rules.{rules}
 use mathlib.Core.Path.{◌≡◌, ◌∙◌}
-use Prim.Native.Nat.{◌≤◌, ◌-◌}
 use native.Mathlib.Omega.{arith}
 use lib.ListN.{length}
-use Rattle.process.proofs.Loops.{done, done_all}
+use Rattle.process.proofs.Loops.{done_all}
 use Rattle.events.specs.Inside.Passing.{ticks_on}
 use Rattle.events.proofs.Together.{ticks_stored}
 use Rattle.events.proofs.ticking.all_ticks.Goals as goal

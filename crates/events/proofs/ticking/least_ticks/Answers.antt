@@ -1,9 +1,8 @@
 -- `events::ticking::least_ticks` meets its contract. Assumes nothing.
 use borrow.Author.Rules.{rules}
 use mathlib.Core.Path.{◌≡◌, ap, ◌∙◌}
-use Prim.Native.Nat.{◌≤◌, ◌-◌}
 use native.Mathlib.Omega.{arith}
-use lib.ListN.{length, take}
+use lib.ListN.{length}
 use lib.Seq.{take_all}
 use Rattle.process.specs.Waiting.{ready}
 use Rattle.events.specs.Inside.Passing.{tick_taken, ticks_reach}

@@ -1,14 +1,8 @@
 -- `events::ticking::least_ticks` meets its contract. Assumes nothing.
-use borrow.Author.Rules.{rules}
-use mathlib.Core.Path.{◌≡◌, ap, ◌∙◌}
+use mathlib.Core.Path.{◌≡◌}
 use Prim.Native.Nat.{◌≤◌, ◌-◌}
-use native.Mathlib.Omega.{arith}
-use lib.ListN.{length, take}
-use lib.Seq.{take_all}
-use Rattle.process.specs.Waiting.{ready}
-use Rattle.events.specs.Inside.Passing.{tick_taken, ticks_reach}
-use Rattle.events.proofs.Reach.{none_passes}
-use Rattle.events.proofs.Together.{ticks_none, ticks_more}
+use lib.ListN.{take}
+use Rattle.events.specs.Inside.Passing.{ticks_reach}
 use Rattle.events.proofs.ticking.least_ticks.Given as goal
 
 abbrev pub invariant-loop-i : goal.invariant-loop-i

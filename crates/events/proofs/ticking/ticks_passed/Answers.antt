@@ -6,7 +6,6 @@ use Rattle.process.proofs.Others.{ticks_past}
 use Rattle.events.specs.Inside.Passing.{through, tick_on, ticks_of}
 use Rattle.events.proofs.Reach.{stays_through}
 use Rattle.events.proofs.WaitsPassed.{least_over, ticks_stay, ticks_over}
-use borrow.Author.Rules.{rules}
 use borrow.Enum.Refused.{opened}
 use Rattle.events.proofs.ticking.ticks_passed.Goals as goal
 

@@ -3,7 +3,6 @@ use mathlib.Core.Path.{sym, ap, ◌∙◌}
 use Prim.Native.Nat.{ℕ}
 use native.Mathlib.Omega.{arith}
 use lib.ListN.{length-replicate}
-use borrow.Author.Rules.{rules}
 use Rattle.process.specs.Waiting.{ready_wait}
 use Rattle.process.proofs.Others.{ticks_past}
 use Rattle.events.specs.Inside.Passing.{reach, tick_on, ticks_of}

@@ -1,6 +1,6 @@
 -- `statement::joining::join` meets its contract: the words from i on decide the rest. Assumes nothing.
-use Rattle.std.proofs.Common.{◌-◌, length, arith, rules}
-use Rattle.statement.proofs.Neighbours.{Joining, join_past, join_end, join_other, join_more}
+use Rattle.std.proofs.Common.{◌-◌, length}
+use Rattle.statement.proofs.Neighbours.{Joining}
 use Rattle.statement.proofs.joining.join.Given as goal
 
 abbrev pub invariant-loop-i : goal.invariant-loop-i

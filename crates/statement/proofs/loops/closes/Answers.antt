@@ -1,5 +1,5 @@
 -- `statement::loops::closes` meets its contract. Assumes nothing.
-use Rattle.std.proofs.Common.{◌∙◌, rules}
+use Rattle.std.proofs.Common.{◌∙◌}
 use Rattle.statement.proofs.LoopCases.{close_none, close_nine, close_one}
 use Rattle.statement.proofs.loops.closes.Goals as goal
 

@@ -1,5 +1,5 @@
 -- `statement::loops::ends_pass` meets its contract. Assumes nothing.
-use Rattle.std.proofs.Common.{◌∙◌, rules}
+use Rattle.std.proofs.Common.{◌∙◌}
 use Rattle.statement.proofs.LoopCases.{pass_ever, pass_last, pass_more}
 use Rattle.statement.proofs.loops.ends_pass.Goals as goal
 

@@ -1,5 +1,5 @@
 -- `statement::loops::goes_back` meets its contract. Assumes nothing.
-use Rattle.std.proofs.Common.{◌∙◌, rules}
+use Rattle.std.proofs.Common.{◌∙◌}
 use Rattle.statement.proofs.LoopCases.{back_inside, back_outside}
 use Rattle.statement.proofs.loops.goes_back.Goals as goal
 

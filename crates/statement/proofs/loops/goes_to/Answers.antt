@@ -1,5 +1,5 @@
 -- `statement::loops::goes_to` meets its contract. Assumes nothing.
-use Rattle.std.proofs.Common.{ap, ◌∙◌, rules}
+use Rattle.std.proofs.Common.{ap, ◌∙◌}
 use Rattle.statement.specs.Ways.{moved_to}
 use Rattle.statement.proofs.loops.goes_to.Goals as goal
 

@@ -1,5 +1,5 @@
 -- `statement::loops::opens` meets its contract. Assumes nothing.
-use Rattle.std.proofs.Common.{◌∙◌, rules}
+use Rattle.std.proofs.Common.{◌∙◌}
 use Rattle.statement.proofs.LoopCases.{open_room, open_ninth}
 use Rattle.statement.proofs.loops.opens.Goals as goal
 

@@ -1,5 +1,5 @@
 -- `statement::moving::awaits_data` meets its contract. Assumes nothing.
-use Rattle.std.proofs.Common.{◌∙◌, arith, rules}
+use Rattle.std.proofs.Common.{◌∙◌, arith}
 use Rattle.statement.proofs.MoveCases.{data_fits, data_leaves}
 use Rattle.statement.proofs.moving.awaits_data.Goals as goal
 

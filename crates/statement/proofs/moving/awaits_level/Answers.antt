@@ -1,5 +1,5 @@
 -- `statement::moving::awaits_level` meets its contract. Assumes nothing.
-use Rattle.std.proofs.Common.{sym, ap, ◌∙◌, rules}
+use Rattle.std.proofs.Common.{sym, ap, ◌∙◌}
 use Rattle.process.specs.Waiting.{same_level}
 use Rattle.statement.proofs.MoveCases.{level_holds, level_waits}
 use Rattle.statement.proofs.moving.awaits_level.Goals as goal

@@ -1,5 +1,5 @@
 -- `statement::moving::moves_at` meets its contract. Assumes nothing.
-use Rattle.std.proofs.Common.{ap, ◌∙◌, rules}
+use Rattle.std.proofs.Common.{ap, ◌∙◌}
 use Rattle.statement.specs.Moving.{moved_by}
 use Rattle.statement.proofs.MoveCases.{step_inside, step_over, step_out}
 use Rattle.statement.proofs.moving.moves_at.Goals as goal

@@ -1,5 +1,5 @@
 -- `statement::moving::moves_by` meets its contract: each arm is given which variant the cell is. Assumes nothing.
-use Rattle.std.proofs.Common.{sym, ap, ◌∙◌, ap₂, rules}
+use Rattle.std.proofs.Common.{sym, ap, ◌∙◌, ap₂}
 use Rattle.statement.specs.declared.joining.Joined.{Joined}
 use Rattle.statement.specs.Moving.{awaits, moved_by}
 use Rattle.statement.proofs.MoveCases.{other_passes}

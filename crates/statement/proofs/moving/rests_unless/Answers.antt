@@ -1,5 +1,5 @@
 -- `statement::moving::rests_unless` meets its contract. Assumes nothing.
-use Rattle.std.proofs.Common.{◌∙◌, rules}
+use Rattle.std.proofs.Common.{◌∙◌}
 use Rattle.statement.proofs.MoveCases.{zero_passes, other_rests}
 use Rattle.statement.proofs.moving.rests_unless.Goals as goal
 

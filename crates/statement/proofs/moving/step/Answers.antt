@@ -1,6 +1,5 @@
 -- `statement::moving::step` meets its contract. Assumes nothing.
 use Rattle.statement.proofs.MoveCases.{cell_there}
-use Rattle.std.proofs.Common.{rules}
 use Rattle.statement.proofs.moving.step.Goals as goal
 
 pub moves_at-moved-requires : goal.moves_at-moved-requires

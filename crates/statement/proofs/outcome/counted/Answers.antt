@@ -1,5 +1,5 @@
 -- `statement::outcome::counted` meets its contract. Assumes nothing.
-use Rattle.std.proofs.Common.{sym, ap, ◌∙◌, rules}
+use Rattle.std.proofs.Common.{sym, ap, ◌∙◌}
 use Rattle.record.specs.Logging.{next_count}
 use Rattle.statement.specs.Saying.{counted_by}
 use Rattle.statement.proofs.Others.{other_stands}
