@@ -1,8 +1,6 @@
 -- `cases::all_cases` ends: the bytes left fall, since no line ends before it begins. Assumes nothing.
 use Prim.Native.Nat.{◌-◌}
 use lib.ListN.{length}
-use native.Mathlib.Omega.{arith}
-use borrow.Author.Rules.{rules}
 use Rattle.cases.proofs.all_cases.Given as goal
 
 abbrev pub invariant-loop-from : goal.invariant-loop-from

@@ -1,8 +1,6 @@
 -- `cases::asked::digit_place` ends: the bytes left fall. Assumes nothing.
 use Prim.Native.Nat.{◌-◌}
 use lib.ListN.{length}
-use native.Mathlib.Omega.{arith}
-use borrow.Author.Rules.{rules}
 use Rattle.cases.proofs.asked.digit_place.Given as goal
 
 abbrev pub invariant-loop-i : goal.invariant-loop-i

@@ -1,8 +1,6 @@
 -- `cases::spelling::put_run` ends: what is left falls. Assumes nothing.
 use mathlib.Core.Path.{◌≡◌}
 use lib.ListN.{length}
-use native.Mathlib.Omega.{arith}
-use borrow.Author.Rules.{rules}
 use Rattle.cases.proofs.spelling.put_run.Given as goal
 
 abbrev pub invariant-loop-left : goal.invariant-loop-left

@@ -2,8 +2,6 @@
 use Prim.Native.Nat.{◌-◌}
 use mathlib.Core.Path.{◌≡◌}
 use lib.ListN.{length}
-use native.Mathlib.Omega.{arith}
-use borrow.Author.Rules.{rules}
 use Rattle.cases.proofs.spelling.spell.Given as goal
 
 abbrev pub invariant-loop-at : goal.invariant-loop-at

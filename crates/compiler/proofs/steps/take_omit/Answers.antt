@@ -8,7 +8,6 @@ use lib.ListN.{length, take, set, get_or}
 use lib.Seq.{length-take-le}
 use Rattle.writer.specs.Put.{put_into}
 use Rattle.compiler.proofs.Setting.{omit_stop, omit_on, set_heads, omit_in}
-use borrow.Author.Rules.{rules}
 use Rattle.compiler.proofs.steps.take_omit.Goals as goal
 
 -- the data have room in the lent bytes

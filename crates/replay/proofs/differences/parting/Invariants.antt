@@ -1,8 +1,6 @@
 -- `replay::differences::parting` ends: the bytes left fall. Assumes nothing.
 use Prim.Native.Nat.{◌-◌}
 use lib.ListN.{length}
-use native.Mathlib.Omega.{arith}
-use borrow.Author.Rules.{rules}
 use Rattle.replay.proofs.differences.parting.Given as goal
 
 abbrev pub invariant-loop-i : goal.invariant-loop-i

@@ -1,7 +1,5 @@
 -- `replay::running::run_all` ends: the turns left to count fall. Assumes nothing.
-use Prim.Native.Nat.{◌-◌}
 use native.Mathlib.Omega.{arith}
-use borrow.Author.Rules.{rules}
 use Rattle.replay.proofs.running.run_all.Goals as goal
 
 pub loop-turns-smaller : goal.loop-turns-smaller

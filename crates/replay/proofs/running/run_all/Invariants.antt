@@ -1,7 +1,5 @@
 -- `replay::running::run_all` ends: the turns left to count fall. Assumes nothing.
 use Prim.Native.Nat.{◌-◌}
-use native.Mathlib.Omega.{arith}
-use borrow.Author.Rules.{rules}
 use Rattle.replay.proofs.running.run_all.Given as goal
 
 abbrev pub invariant-loop-turns : goal.invariant-loop-turns

@@ -1,7 +1,5 @@
 -- `replay::tally::check_all` ends: the words left fall. Assumes nothing.
 use Prim.Native.Nat.{◌-◌}
-use native.Mathlib.Omega.{arith}
-use borrow.Author.Rules.{rules}
 use Rattle.replay.proofs.tally.check_all.Given as goal
 
 abbrev pub invariant-loop-i : goal.invariant-loop-i
