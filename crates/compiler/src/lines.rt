@@ -77,14 +77,6 @@ fn without_cr(text: &[u8], start: usize, end: usize) -> usize
     end
 }
 
-// What stands in a branch that no call takes: whoever calls it has proved that.
-fn never() -> Compiled
-    requires { ⊥ }
-    ensures { ⊥ }
-{
-    refusal(TextFault::LoopLeftOpen, 0, 0)
-}
-
 // The end of the text. "loop open at .. the end of text", "stretch over 4,096".
 fn finish(
     cells: &Cells,
@@ -119,7 +111,7 @@ fn finish(
         }
         Measured::Over(number) => refusal(TextFault::StretchTooLong, number, 0),
         // The loops of every draft nest.
-        Measured::Broken => never(),
+        Measured::Broken => unreachable!(),
     }
 }
 

@@ -39,14 +39,6 @@ fn send(pool: &Pool, s: Span, out: &mut [u8]) -> usize
     count
 }
 
-// What stands in a branch that no call takes: whoever calls it has proved that.
-fn never() -> usize
-    requires { ⊥ }
-    ensures { ⊥ }
-{
-    0
-}
-
 // Records a LOG text: how many bytes the record has.
 fn log(pool: &Pool, s: Span, r: Reading, count: u32, out: &mut [u8]) -> usize
     requires { (s.from + s.count ≤ pool_places) × (record_limit ≤ length out.old) }
@@ -60,7 +52,7 @@ fn log(pool: &Pool, s: Span, r: Reading, count: u32, out: &mut [u8]) -> usize
     match put {
         Put::Next(n) => n,
         // The buffer has 128 bytes, and no record more than 127.
-        Put::NoRoom => never(),
+        Put::NoRoom => unreachable!(),
     }
 }
 

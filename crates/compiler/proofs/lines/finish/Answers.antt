@@ -17,8 +17,8 @@ said c =
 pub returns-then-opened-gt0 : goal.returns-then-opened-gt0
 returns-then-opened-gt0 c = λ st i h. c.refusal.ensures ∙ open_end i h c.if-opened-gt0.true
 
-pub never-requires : goal.never-requires
-never-requires c = c.requires.1 c.if-opened-gt0.false (sym (said (goal.at.never-requires c).After-largest) ∙ c.in-Broken.is)
+pub unreachable-requires : goal.unreachable-requires
+unreachable-requires c = c.requires.1 c.if-opened-gt0.false (sym (said (goal.at.unreachable-requires c).After-largest) ∙ c.in-Broken.is)
 
 pub returns-in-Largest : goal.returns-in-Largest
 returns-in-Largest c =
