@@ -47,7 +47,6 @@ use Rattle.bounded.proofs.Accepting.{Fitting}
 use Rattle.bounded.proofs.Several.{lowest_ready, started_length, started_at}
 use Rattle.bounded.proofs.Keeping.{All, Keeps, start_held, started_is, outcome_did}
 use Rattle.bounded.proofs.Changing.{AllAfter, changed_all, ranges_right_lem, tick_all, byte_all, ticks_all, bytes_all}
-use Rattle.reader.specs.Bytes.{all}
 
 module _ (t : Table) (k : ℕ) (a : Fitting t k) where
   abbrev hs : Heads

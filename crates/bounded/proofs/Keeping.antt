@@ -24,7 +24,6 @@ use Rattle.bounded.proofs.Ahead.{opens_of, onward}
 use Rattle.bounded.proofs.Held.{Held}
 use Rattle.bounded.proofs.Ways.{awake_fine}
 use Rattle.bounded.proofs.Accepting.{Sound}
-use Rattle.reader.specs.Bytes.{all}
 
 -- the processes of a state, f being the statements that each has done since the last start or accepted event
 pub record All (t : Table) (k : ℕ) (s : State) (f : ℕ → ℕ) : Type 0 where

@@ -21,7 +21,6 @@ use Rattle.language.specs.Meaning.{marked_data, send_says, data_says, omit_says,
 use Rattle.language.proofs.Reading as right
 use Rattle.line_values.specs.declared.Line.TheVariants.{Says, Omit, Faulty}
 use Rattle.line_meaning.specs.declared.Found.{Found}
-use Rattle.line_meaning.specs.declared.Found.TheVariants as Found
 use Rattle.line_values.specs.Inside.Line.{line_from, data_from}
 use Rattle.line_meaning.specs.Inside.Found.{found}
 use Rattle.line_meaning.specs.Inside.Reading.{ReadsLine, ReadsData}

@@ -5,7 +5,6 @@ use mathlib.Core.Bool.{cond}
 use mathlib.Core.List.{List, [], ◌∷◌, map}
 use lib.ListN.{replicate}
 use lib.Dec.{eqb}
-use lib.Seq as seq
 use Rattle.reader.specs.Ascii.{ascii}
 use Rattle.language.specs.Cell as cell
 use Rattle.language.specs.Table as table

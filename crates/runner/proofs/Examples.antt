@@ -1,7 +1,7 @@
 -- A start and a drain on damaged tables and states: "start, lister: no accepted script has this table" 25; "25, then 24". Assumes nothing.
 use Prim.Native.Nat.{ℕ}
 use mathlib.Core.Path.{◌≡◌, refl}
-use mathlib.Core.Bool.{Bool, true, false}
+use mathlib.Core.Bool.{false}
 use mathlib.Core.List.{List, [], ◌∷◌}
 use lib.ListN.{replicate}
 use Rattle.language.specs.Table.{zero_table}
@@ -25,7 +25,7 @@ use Rattle.writer.specs.Put as put
 use Rattle.runner.specs.Writing as writing
 use Rattle.runner.specs.Starting.{start_event, start_counts}
 use Rattle.runner.specs.Draining.{lowest, does, writes, state_after, drained, counts_after}
-use Rattle.runner.specs.Calls.{Box, start, Called, event, start_call, called}
+use Rattle.runner.specs.Calls.{Box, start, event, start_call, called}
 
 -- ---- a start on the table of zeros: 25, and the box is handed back as it was
 

@@ -3,7 +3,6 @@ use mathlib.Core.Path.{◌∙◌}
 use native.Mathlib.Omega.{arith}
 use Rattle.line_column.proofs.Words.{end_within}
 use Rattle.line_column.proofs.Lines.{no_line, hex_line, named_line}
-use borrow.Author.Rules.{rules}
 use Rattle.line_column.proofs.line_taken.Goals as goal
 
 pub returns-then-line-eq0 : goal.returns-then-line-eq0

@@ -2,7 +2,6 @@
 use Rattle.language.specs.Script.{comment, blank}
 use Rattle.line_meaning.proofs.Telling.{no_name}
 use Rattle.line_meaning.proofs.Beginning.{too_long, reads, tells_blank, tells_comment, empty, semicolon, hash, slash, colon, blank_line, unknown_line}
-use borrow.Author.Rules.{rules}
 use Rattle.line_meaning.proofs.read_line.Goals as goal
 
 pub returns-then-line-gt-LINE : goal.returns-then-line-gt-LINE

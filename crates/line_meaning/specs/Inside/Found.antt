@@ -2,7 +2,6 @@
 use Rattle.std.specs.Prelude.{length}
 use Rattle.hex_data.specs.Hex.{Said, good, bad}
 use Rattle.line_meaning.specs.declared.Found.{Found}
-use Rattle.line_meaning.specs.declared.Found.TheVariants as Found
 
 -- how many bytes data are
 unfoldable pub found : Said → Found

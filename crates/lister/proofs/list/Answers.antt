@@ -3,7 +3,6 @@ use mathlib.Core.Path.{sym, ◌∙◌}
 use Rattle.language.specs.declared.Table.{Table}
 use Rattle.lister.proofs.Fitting.{omits_few, listing_room}
 use Rattle.lister.proofs.Listing.{bad_table, no_room, wrote}
-use borrow.Author.Rules.{rules}
 use Rattle.lister.proofs.list.Goals as goal
 use Rattle.lister.proofs.list.Goals.{Start}
 

@@ -1,6 +1,5 @@
 -- `in_word` meets its contract: each `return` is a case of `in_word`, behind the blanks. Assumes nothing.
 use mathlib.Core.Path.{◌∙◌}
-use borrow.Author.Tests.{not-true, not-false}
 use Rattle.language.specs.Column.{in_word}
 use Rattle.line_column.specs.Inside.Kinds.{reader_of, taken_of}
 use Rattle.line_column.proofs.Words.{from_within, behind_blanks_lem, end_behind, end_within, bad_byte, not_right, next_word}

@@ -1,6 +1,5 @@
 -- `no_fault` meets its contract: lines with a fault, and all others. Assumes nothing.
 use Rattle.line_column.proofs.Faults.{other_right}
-use borrow.Author.Rules.{rules}
 use borrow.Enum.Refused.{opened}
 use Rattle.line_column.proofs.arguments.no_fault.Goals as goal
 

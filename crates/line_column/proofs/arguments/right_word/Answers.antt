@@ -2,7 +2,6 @@
 use mathlib.Core.Path.{ap, ◌∙◌}
 use Rattle.line_column.specs.Inside.Faults.{no_fault}
 use Rattle.line_column.proofs.Faults.{told_faultless}
-use borrow.Author.Rules.{rules}
 use Rattle.line_column.proofs.arguments.right_word.Goals as goal
 
 pub returns : goal.returns

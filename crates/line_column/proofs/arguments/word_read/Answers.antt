@@ -1,5 +1,4 @@
 -- `word_read` meets its contract: each name has its reader. Assumes nothing.
-use borrow.Author.Rules.{rules}
 use Rattle.line_column.proofs.arguments.word_read.Goals as goal
 
 pub returns-in-Loop : goal.returns-in-Loop

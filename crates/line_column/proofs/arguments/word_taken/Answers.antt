@@ -1,5 +1,4 @@
 -- `word_taken` meets its contract: each name has its way to take. Assumes nothing.
-use borrow.Author.Rules.{rules}
 use Rattle.line_column.proofs.arguments.word_taken.Goals as goal
 
 pub returns-in-Loop : goal.returns-in-Loop

@@ -4,7 +4,6 @@ use Rattle.reader.specs.Ascii.{ascii}
 use Rattle.reader.specs.Bytes.{same}
 use Rattle.language.specs.Column.{taken_by, waits_behind}
 use Rattle.line_column.proofs.Naming.{it_is, not_named, past, no_name}
-use borrow.Author.Rules.{rules}
 use Rattle.line_column.proofs.names.behind_second.Goals as goal
 
 pub returns-then-is_named : goal.returns-then-is_named

@@ -5,7 +5,6 @@ use Rattle.reader.specs.Bytes.{same}
 use Rattle.language.specs.Column.{taken_by, names_behind}
 use Rattle.line_column.specs.Inside.Behind.{settings_behind}
 use Rattle.line_column.proofs.Naming.{it_is, not_named, past, no_name}
-use borrow.Author.Rules.{rules}
 use Rattle.line_column.proofs.names.behind_setting.Goals as goal
 
 pub returns-then-is_named : goal.returns-then-is_named

@@ -3,7 +3,6 @@ use mathlib.Core.Path.{◌∙◌}
 use Rattle.language.specs.Column.{named_taken, waits_behind}
 use Rattle.line_column.proofs.Words.{from_within, behind_blanks_lem, end_within}
 use Rattle.line_column.proofs.Naming.{named_to}
-use borrow.Author.Rules.{rules}
 use Rattle.line_column.proofs.names.wait_taken.Goals as goal
 
 pub behind_second-requires : goal.behind_second-requires

@@ -1,9 +1,7 @@
 -- `alike` meets its contract: each turn of the loop is a law on its state, `Agreeing`. Assumes nothing.
-use Prim.Native.Nat.{◌-◌}
 use mathlib.Core.Path.{refl}
 use native.Mathlib.Omega.{arith}
-use lib.ListN.{length}
-use Rattle.line_column.proofs.Agreeing.{Agreeing, name_ended, bytes_ended, differs, agrees}
+use Rattle.line_column.proofs.Agreeing.{name_ended, bytes_ended, differs, agrees}
 use Rattle.line_column.proofs.taken.alike.Goals as goal
 
 pub loop-n-init : goal.loop-n-init

@@ -2,7 +2,6 @@
 use mathlib.Core.Path.{sym, ◌∙◌}
 use Rattle.language.specs.Column.{clock_taken}
 use Rattle.line_column.proofs.Clocked.{clock_whole, clock_bad}
-use borrow.Author.Rules.{rules}
 use Rattle.line_column.proofs.taken.clock_taken.Goals as goal
 
 pub returns-in-Of : goal.returns-in-Of

@@ -1,7 +1,6 @@
 -- `in_taken` meets its contract: IN from the front. Assumes nothing.
 use Rattle.language.specs.Column.{in_taken}
 use Rattle.line_column.proofs.Agreeing.{at_front}
-use borrow.Author.Rules.{rules}
 use Rattle.line_column.proofs.taken.in_taken.Goals as goal
 
 pub returns : goal.returns

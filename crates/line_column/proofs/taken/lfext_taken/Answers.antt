@@ -1,11 +1,7 @@
 -- `lfext_taken` meets its contract: each turn of the loop is a law on its state, `Lettering`. Assumes nothing.
-use Prim.Native.Nat.{◌-◌}
 use native.Mathlib.Omega.{arith}
-use lib.ListN.{length}
-use borrow.Author.Tests.{not-true, not-false}
 use Rattle.language.specs.Column.{lfext_taken}
-use Rattle.language.specs.Limits.{letter_limit}
-use Rattle.line_column.proofs.Lettering.{Lettering, begun, word_ended, enough, no_letter, letter}
+use Rattle.line_column.proofs.Lettering.{begun, word_ended, enough, no_letter, letter}
 use Rattle.line_column.proofs.taken.lfext_taken.Goals as goal
 
 pub loop-i-init : goal.loop-i-init

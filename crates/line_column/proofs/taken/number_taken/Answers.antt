@@ -2,7 +2,6 @@
 use mathlib.Core.Path.{sym, ap, ◌∙◌}
 use Rattle.numbers.specs.Number.{number_place}
 use Rattle.language.specs.Column.{number_taken}
-use borrow.Author.Rules.{rules}
 use Rattle.line_column.proofs.taken.number_taken.Goals as goal
 
 pub returns-in-Value : goal.returns-in-Value

@@ -2,7 +2,6 @@
 use mathlib.Core.Path.{ap₂, ◌∙◌}
 use Rattle.language.specs.Column.{further, rts_taken}
 use Rattle.line_column.proofs.Agreeing.{at_front}
-use borrow.Author.Rules.{rules}
 use Rattle.line_column.proofs.taken.rts_taken.Goals as goal
 
 pub returns : goal.returns

@@ -2,7 +2,6 @@
 use mathlib.Core.Path.{◌∙◌}
 use Rattle.language.specs.Column.{unit_taken}
 use Rattle.line_column.proofs.Agreeing.{of_two}
-use borrow.Author.Rules.{rules}
 use Rattle.line_column.proofs.taken.unit_taken.Goals as goal
 
 pub returns : goal.returns

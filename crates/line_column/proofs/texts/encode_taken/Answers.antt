@@ -4,7 +4,6 @@ use native.Mathlib.Omega.{arith}
 use Rattle.language.specs.Column.{encode_taken}
 use Rattle.line_column.proofs.Words.{behind_blanks_lem}
 use Rattle.line_column.proofs.Marks.{nothing_encoded, digits_all, digits_to, byte_encoded}
-use borrow.Author.Rules.{rules}
 use Rattle.line_column.proofs.texts.encode_taken.Goals as goal
 
 pub returns-then-line-from : goal.returns-then-line-from

@@ -1,7 +1,6 @@
 -- `hex_taken` meets its contract: all of the data, or up to the place that is told. Assumes nothing.
 use mathlib.Core.Path.{sym, ◌∙◌}
 use Rattle.line_column.proofs.Marks.{hex_all, hex_to}
-use borrow.Author.Rules.{rules}
 use Rattle.line_column.proofs.texts.hex_taken.Goals as goal
 
 pub returns-in-Of : goal.returns-in-Of

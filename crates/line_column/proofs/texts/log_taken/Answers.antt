@@ -2,7 +2,6 @@
 use mathlib.Core.Path.{◌∙◌}
 use native.Mathlib.Omega.{arith}
 use Rattle.line_column.proofs.Marks.{nothing_logged, no_space, one_space}
-use borrow.Author.Rules.{rules}
 use Rattle.line_column.proofs.texts.log_taken.Goals as goal
 
 pub returns-then-line-at : goal.returns-then-line-at

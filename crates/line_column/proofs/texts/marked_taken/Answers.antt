@@ -4,7 +4,6 @@ use native.Mathlib.Omega.{arith}
 use Rattle.language.specs.Column.{marked_taken}
 use Rattle.line_column.proofs.Words.{behind_blanks_lem}
 use Rattle.line_column.proofs.Marks.{nothing_marked, text_marked, hex_marked, unmarked}
-use borrow.Author.Rules.{rules}
 use Rattle.line_column.proofs.texts.marked_taken.Goals as goal
 
 pub returns-then-line-from : goal.returns-then-line-from

@@ -1,11 +1,7 @@
 -- `signs_taken` meets its contract: each turn of the loop is a law on its state, `Signing`. Assumes nothing.
-use Prim.Native.Nat.{◌-◌}
 use mathlib.Core.Path.{refl}
-use mathlib.Core.Logic.{⊎_elim}
 use native.Mathlib.Omega.{arith}
-use lib.ListN.{length}
-use borrow.Author.Tests.{not-true, not-false}
-use Rattle.line_column.proofs.Signing.{Signing, text_ended, no_sign, sign, plain, renamed}
+use Rattle.line_column.proofs.Signing.{text_ended, no_sign, sign, plain, renamed}
 use Rattle.line_column.proofs.texts.signs_taken.Goals as goal
 use Rattle.line_column.proofs.texts.signs_taken.Goals.{then-marked+else-not-is_sign, else-marked}
 
@@ -19,8 +15,8 @@ pub loop-i-preserved : goal.loop-i-preserved
 loop-i-preserved c =
     let w = c.loop-i.invariant in
     elim c.if-marked.branch [
-      then-marked+else-not-is_sign w₁ ↦ renamed w₁.marked-is (sign w (omega arith) w₁.if-marked.true w₁.is_sign.ensures w₁.if-not-is_sign.false)
-    | else-marked w₂ ↦ renamed w₂.marked-is (plain w (omega arith) w₂.if-marked.false)
+      | then-marked+else-not-is_sign w₁ ↦ renamed w₁.marked-is (sign w (omega arith) w₁.if-marked.true w₁.is_sign.ensures w₁.if-not-is_sign.false)
+      | else-marked w₂ ↦ renamed w₂.marked-is (plain w (omega arith) w₂.if-marked.false)
     ]
 
 pub returns : goal.returns

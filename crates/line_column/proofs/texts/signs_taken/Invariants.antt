@@ -1,11 +1,7 @@
 -- `signs_taken` meets its contract: each turn of the loop is a law on its state, `Signing`. Assumes nothing.
 use Prim.Native.Nat.{◌-◌}
-use mathlib.Core.Path.{refl}
-use mathlib.Core.Logic.{⊎_elim}
-use native.Mathlib.Omega.{arith}
 use lib.ListN.{length}
-use borrow.Author.Tests.{not-true, not-false}
-use Rattle.line_column.proofs.Signing.{Signing, text_ended, no_sign, sign, plain, renamed}
+use Rattle.line_column.proofs.Signing.{Signing}
 use Rattle.line_column.proofs.texts.signs_taken.Given as goal
 
 abbrev pub invariant-loop-i : goal.invariant-loop-i

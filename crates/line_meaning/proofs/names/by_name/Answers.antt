@@ -8,7 +8,6 @@ use Rattle.line_values.specs.Inside.Line.{line_from, data_from}
 use Rattle.line_meaning.specs.Inside.Names.{only, names_with}
 use Rattle.line_meaning.proofs.Telling.{tells_as, quiet, no_name}
 use Rattle.line_meaning.proofs.ByName.{second, bare_named, too_short, no_such_name, r_quiet, p_quiet}
-use borrow.Author.Rules.{rules}
 use Rattle.line_meaning.proofs.names.by_name.Goals as goal
 
 pub returns-then-word-lt2 : goal.returns-then-word-lt2

@@ -3,7 +3,6 @@ use Rattle.language.specs.Meaning.{loop_of}
 use Rattle.line_meaning.proofs.Telling.{tells_as, with_argument, no_name}
 use Rattle.line_meaning.proofs.Dataless.{loop_quiet}
 use Rattle.line_meaning.proofs.ByName.{loop_named, log_named, neither_l}
-use borrow.Author.Rules.{rules}
 use Rattle.line_meaning.proofs.names.loop_or_log.Goals as goal
 
 pub returns-then-is_name : goal.returns-then-is_name

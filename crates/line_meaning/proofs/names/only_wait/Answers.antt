@@ -1,7 +1,6 @@
 -- `only_wait` meets its contract. Assumes nothing.
 use Rattle.line_meaning.proofs.Telling.{tells_as, no_name}
 use Rattle.line_meaning.proofs.ByName.{wait_named, wait_not}
-use borrow.Author.Rules.{rules}
 use Rattle.line_meaning.proofs.names.only_wait.Goals as goal
 
 pub returns-then-is_name : goal.returns-then-is_name

@@ -3,7 +3,6 @@ use Rattle.language.specs.Meaning.{lfext_of, encode_of, stopbits_of}
 use Rattle.line_meaning.proofs.Telling.{tells_as, quiet, with_argument, no_name}
 use Rattle.line_meaning.proofs.Dataless.{lfext_quiet, encode_quiet, stopbits_quiet}
 use Rattle.line_meaning.proofs.ByName.{ex_long, ex_dataless, omit_named, lfext_named, encode_named, stopbits_named, no_setting}
-use borrow.Author.Rules.{rules}
 use Rattle.line_meaning.proofs.names.setting.Goals as goal
 
 pub returns-then-word-eq6 : goal.returns-then-word-eq6

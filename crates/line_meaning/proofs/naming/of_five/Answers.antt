@@ -9,7 +9,6 @@ use Rattle.language.specs.Meaning.{waits, clock_says}
 use Rattle.line_meaning.specs.Inside.Names.{only, waits_long}
 use Rattle.line_values.specs.Inside.Line.{line_from}
 use Rattle.line_meaning.proofs.WithoutData.{too_short, signalled, clock_named, clock_not, none_of_five}
-use borrow.Author.Rules.{rules}
 use Rattle.line_meaning.proofs.naming.of_five.Goals as goal
 
 pub returns-then-word-lt3 : goal.returns-then-word-lt3

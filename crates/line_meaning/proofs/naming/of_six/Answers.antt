@@ -6,7 +6,6 @@ use Rattle.language.specs.Meaning.{waits}
 use Rattle.line_meaning.specs.Inside.Names.{only, waits_long}
 use Rattle.line_values.specs.Inside.Line.{line_from}
 use Rattle.line_meaning.proofs.WithoutData.{too_short, signalled, none_of_six}
-use borrow.Author.Rules.{rules}
 use Rattle.line_meaning.proofs.naming.of_six.Goals as goal
 
 pub returns-then-word-lt3 : goal.returns-then-word-lt3

@@ -5,7 +5,6 @@ use mathlib.Core.List.{List}
 use Rattle.language.specs.Meaning.{ex_in}
 use Rattle.line_values.specs.Inside.Line.{line_from}
 use Rattle.line_meaning.proofs.WithoutData.{ex_one, ex_two, ex_three, ex_four, no_ex}
-use borrow.Author.Rules.{rules}
 use Rattle.line_meaning.proofs.naming.only_ex.Goals as goal
 
 pub returns-then-is_name : goal.returns-then-is_name

@@ -3,7 +3,6 @@ use mathlib.Core.Path.{refl}
 use Rattle.language.specs.Table.{cell_for}
 use Rattle.line_values.specs.Inside.Line.{line_from}
 use Rattle.line_meaning.proofs.WithoutData.{pause_named, process_named}
-use borrow.Author.Rules.{rules}
 use Rattle.line_meaning.proofs.naming.pause_or_process.Goals as goal
 
 pub returns-then-word-eq6 : goal.returns-then-word-eq6

@@ -6,7 +6,6 @@ use Rattle.language.specs.Meaning.{rts_of}
 use Rattle.language.specs.Table.{cell_for}
 use Rattle.line_values.specs.Inside.Line.{line_from}
 use Rattle.line_meaning.proofs.WithoutData.{rts_named, rts_not}
-use borrow.Author.Rules.{rules}
 use Rattle.line_meaning.proofs.naming.rts_or_resume.Goals as goal
 
 pub returns-then-is_name : goal.returns-then-is_name

@@ -1,6 +1,5 @@
 -- `log` meets its contract: each `return` is a case of `logOf`. Assumes nothing.
 use Rattle.line_meaning.proofs.Filling.{logs_nothing, no_space, logs, bad_signs}
-use borrow.Author.Rules.{rules}
 use Rattle.line_meaning.proofs.texts.log.Goals as goal
 
 pub returns-then-rest-eq0 : goal.returns-then-rest-eq0

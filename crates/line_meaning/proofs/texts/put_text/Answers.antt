@@ -1,7 +1,6 @@
 -- `put_text` meets its contract: there is room. Assumes nothing.
 use mathlib.Core.Path.{refl}
 use Rattle.line_meaning.proofs.Filling.{text_put}
-use borrow.Author.Rules.{rules}
 use Rattle.line_meaning.proofs.texts.put_text.Goals as goal
 
 pub returns : goal.returns

@@ -2,7 +2,6 @@
 use mathlib.Core.Path.{sym, ◌∙◌}
 use native.Mathlib.Omega.{arith}
 use Rattle.line_meaning.proofs.Filling.{hex_few, hex_bytes, hex_wrong_lem, hex_full_lem, found_few}
-use borrow.Author.Rules.{rules}
 use Rattle.line_meaning.proofs.texts.read_hex.Goals as goal
 
 pub overflow_cast-result : goal.overflow_cast-result

@@ -1,6 +1,5 @@
 -- `read_marked` meets its contract: each `return` is a case of `markedData`. Assumes nothing.
 use Rattle.line_meaning.proofs.Filling.{finds_as, no_data, some_data, nothing_marked, text_marked, hex_marked, unmarked, tail_few}
-use borrow.Author.Rules.{rules}
 use Rattle.line_meaning.proofs.texts.read_marked.Goals as goal
 
 pub returns-then-rest-eq0 : goal.returns-then-rest-eq0

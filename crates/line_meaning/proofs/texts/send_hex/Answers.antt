@@ -1,6 +1,5 @@
 -- `send_hex` meets its contract: each `return` is a case of what is found. Assumes nothing.
 use Rattle.line_meaning.proofs.Filling.{found_as, sends, sends_none}
-use borrow.Author.Rules.{rules}
 use Rattle.line_meaning.proofs.texts.send_hex.Goals as goal
 
 pub returns-in-Bytes : goal.returns-in-Bytes

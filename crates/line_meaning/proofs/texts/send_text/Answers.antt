@@ -1,6 +1,5 @@
 -- `send_text` meets its contract. Assumes nothing.
 use Rattle.line_meaning.proofs.Filling.{sends_text}
-use borrow.Author.Rules.{rules}
 use Rattle.line_meaning.proofs.texts.send_text.Goals as goal
 
 pub returns : goal.returns

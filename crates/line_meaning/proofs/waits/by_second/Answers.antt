@@ -1,7 +1,6 @@
 -- `by_second` meets its contract: the table is parted by the length of the word. Assumes nothing.
 use Rattle.line_meaning.proofs.Telling.{tells_as, quiet, no_name}
 use Rattle.line_meaning.proofs.ByName.{so_long, no_second_word, five_quiet, six_quiet}
-use borrow.Author.Rules.{rules}
 use Rattle.line_meaning.proofs.waits.by_second.Goals as goal
 
 pub returns-then-word-eq4 : goal.returns-then-word-eq4

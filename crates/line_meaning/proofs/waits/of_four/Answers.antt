@@ -3,7 +3,6 @@ use Rattle.language.specs.Meaning.{time_of, byte_of}
 use Rattle.line_meaning.proofs.Telling.{tells_as, with_argument, no_name}
 use Rattle.line_meaning.proofs.Dataless.{time_quiet, byte_quiet}
 use Rattle.line_meaning.proofs.ByName.{time_named, data_named, byte_named, none_of_four}
-use borrow.Author.Rules.{rules}
 use Rattle.line_meaning.proofs.waits.of_four.Goals as goal
 
 pub returns-then-is_name : goal.returns-then-is_name

@@ -1,11 +1,6 @@
 -- `lister::body::cell_lines` meets its contract: the cells from i on are left. Assumes nothing.
-use Prim.Native.Nat.{◌-◌}
-use lib.ListN.{length, drop, take}
-use Rattle.language.specs.Table.{items_of}
-use Rattle.lister.specs.Inside.Printed.{printed_items, printed_cells}
-use Rattle.lister.proofs.Printing.{Printing, begun, printed, left_is, next_room, went_on}
+use Rattle.lister.proofs.Printing.{begun, printed, left_is, next_room, went_on}
 use Rattle.lister.proofs.Lining.{cells_on, cells_enough, cells_past}
-use borrow.Author.Rules.{rules}
 use Rattle.lister.proofs.body.cell_lines.Goals as goal
 
 pub loop-i-init : goal.loop-i-init

@@ -3,9 +3,7 @@ use Prim.Native.Nat.{◌-◌}
 use lib.ListN.{length, drop, take}
 use Rattle.language.specs.Table.{items_of}
 use Rattle.lister.specs.Inside.Printed.{printed_items, printed_cells}
-use Rattle.lister.proofs.Printing.{Printing, begun, printed, left_is, next_room, went_on}
-use Rattle.lister.proofs.Lining.{cells_on, cells_enough, cells_past}
-use borrow.Author.Rules.{rules}
+use Rattle.lister.proofs.Printing.{Printing}
 use Rattle.lister.proofs.body.cell_lines.Given as goal
 
 abbrev pub invariant-loop-i : goal.invariant-loop-i

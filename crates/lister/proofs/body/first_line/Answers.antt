@@ -3,7 +3,6 @@ use mathlib.Core.List.{[], ◌∷◌}
 use Rattle.language.specs.Script.{next}
 use Rattle.lister.specs.Inside.Printed.{printed_items}
 use Rattle.lister.proofs.Printing.{printed_none, printed_is, room_is, cond_on, cond_off}
-use borrow.Author.Rules.{rules}
 use Rattle.lister.proofs.body.first_line.Goals as goal
 
 pub process_line-requires : goal.process_line-requires

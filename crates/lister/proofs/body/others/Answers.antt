@@ -1,9 +1,6 @@
 -- `lister::body::others` meets its contract: the ends from i on are left. Assumes nothing.
-use Prim.Native.Nat.{◌-◌}
-use lib.ListN.{length}
-use Rattle.lister.proofs.Printing.{Printing, begun, printed, left_is, next_room, went_on}
-use Rattle.lister.proofs.Lining.{others, others_on, others_enough, others_past}
-use borrow.Author.Rules.{rules}
+use Rattle.lister.proofs.Printing.{begun, printed, left_is, next_room, went_on}
+use Rattle.lister.proofs.Lining.{others_on, others_enough, others_past}
 use Rattle.lister.proofs.body.others.Goals as goal
 
 pub loop-i-init : goal.loop-i-init

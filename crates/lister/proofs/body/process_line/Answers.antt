@@ -1,7 +1,6 @@
 -- `lister::body::process_line` meets its contract. Assumes nothing.
 use Rattle.language.specs.Listing.{item_line, item_lines, with_line_ends}
 use Rattle.lister.specs.Inside.Printed.{printed_items}
-use borrow.Author.Rules.{rules}
 use Rattle.lister.proofs.body.process_line.Goals as goal
 
 pub put-requires : goal.put-requires

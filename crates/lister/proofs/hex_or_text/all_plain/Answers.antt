@@ -1,12 +1,8 @@
 -- `all_plain` meets its contract: the bytes from i on decide. Assumes nothing.
-use mathlib.Core.Path.{◌≡◌, refl, sym, ◌∙◌}
-use Prim.Native.Nat.{◌-◌}
-use lib.ListN.{length, drop}
-use Rattle.reader.specs.Bytes.{all}
+use mathlib.Core.Path.{refl, sym, ◌∙◌}
 use Rattle.language.specs.Listing.{is_plain}
 use Rattle.lister.proofs.Plain.{too_low, too_high, is_plain_lem}
 use Rattle.reader.proofs.Each.{each_past, each_not, each_end}
-use borrow.Author.Rules.{rules}
 use Rattle.lister.proofs.hex_or_text.all_plain.Goals as goal
 
 pub loop-i-init : goal.loop-i-init

@@ -1,6 +1,5 @@
 -- `in_hex` meets its contract. Assumes nothing.
 use Rattle.lister.proofs.Plain.{plain_text, other_text}
-use borrow.Author.Rules.{rules}
 use Rattle.lister.proofs.hex_or_text.in_hex.Goals as goal
 
 pub returns-then-all_plain : goal.returns-then-all_plain

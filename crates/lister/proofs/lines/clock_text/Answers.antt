@@ -1,6 +1,5 @@
 -- `lister::lines::clock_text` meets its contract. Assumes nothing.
 use Rattle.lister.proofs.Clocking.{letter_room, day_room, hour_room, minute_room, second_room, clock_printed}
-use borrow.Author.Rules.{rules}
 use Rattle.lister.proofs.lines.clock_text.Goals as goal
 
 pub put-day-requires : goal.put-day-requires

@@ -1,7 +1,6 @@
 -- `lister::lines::count_text` meets its contract. Assumes nothing.
 use Rattle.lister.proofs.Printing.{printed_is, room_is}
 use Rattle.lister.proofs.Texts.{for_ever, so_often}
-use borrow.Author.Rules.{rules}
 use Rattle.lister.proofs.lines.count_text.Goals as goal
 
 pub put-requires : goal.put-requires

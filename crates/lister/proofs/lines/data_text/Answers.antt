@@ -5,7 +5,6 @@ use Rattle.writer.specs.Hex.{hex_text}
 use Rattle.language.specs.Listing.{short_hex}
 use Rattle.lister.proofs.Printing.{printed_is, printed_more, room_is, then_room, stored}
 use Rattle.lister.proofs.Texts.{short_data, short_some, short_few, short_last, hex_data_lem, text_data, hex_few}
-use borrow.Author.Rules.{rules}
 use Rattle.lister.proofs.lines.data_text.Goals as goal
 
 pub short_hex-requires : goal.short_hex-requires

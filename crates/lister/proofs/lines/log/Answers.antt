@@ -3,7 +3,6 @@ use mathlib.Core.Path.{ap}
 use Rattle.language.specs.Listing.{log_text}
 use Rattle.lister.proofs.Printing.{printed_is, room_is}
 use Rattle.lister.proofs.Texts.{held}
-use borrow.Author.Rules.{rules}
 use Rattle.lister.proofs.lines.log.Goals as goal
 
 pub log_text-requires : goal.log_text-requires

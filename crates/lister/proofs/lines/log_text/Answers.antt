@@ -2,7 +2,6 @@
 use Rattle.reader.specs.Ascii.{ascii}
 use Rattle.lister.proofs.Printing.{printed_is, printed_more, room_is, first_room, then_room}
 use Rattle.lister.proofs.Texts.{log_empty, log_full}
-use borrow.Author.Rules.{rules}
 use Rattle.lister.proofs.lines.log_text.Goals as goal
 
 pub put-requires : goal.put-requires

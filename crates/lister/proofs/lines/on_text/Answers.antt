@@ -1,7 +1,6 @@
 -- `lister::lines::on_text` meets its contract. Assumes nothing.
 use Rattle.lister.proofs.Printing.{printed_is, room_is}
 use Rattle.lister.proofs.Texts.{level_on, level_off}
-use borrow.Author.Rules.{rules}
 use Rattle.lister.proofs.lines.on_text.Goals as goal
 
 pub put-requires : goal.put-requires

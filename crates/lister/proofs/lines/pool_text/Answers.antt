@@ -3,7 +3,6 @@ use mathlib.Core.Path.{ap}
 use Rattle.language.specs.Listing.{data_text}
 use Rattle.lister.proofs.Printing.{printed_is, room_is}
 use Rattle.lister.proofs.Texts.{held}
-use borrow.Author.Rules.{rules}
 use Rattle.lister.proofs.lines.pool_text.Goals as goal
 
 pub data_text-requires : goal.data_text-requires

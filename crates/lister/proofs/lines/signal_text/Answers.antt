@@ -1,7 +1,6 @@
 -- `lister::lines::signal_text` meets its contract. Assumes nothing.
 use Rattle.lister.proofs.Printing.{printed_is, room_is}
 use Rattle.lister.proofs.Texts.{is_cts, is_ex}
-use borrow.Author.Rules.{rules}
 use Rattle.lister.proofs.lines.signal_text.Goals as goal
 
 pub put-requires : goal.put-requires

@@ -4,7 +4,6 @@ use Rattle.reader.specs.Ascii.{ascii}
 use Rattle.writer.specs.Put.{decimal}
 use Rattle.lister.proofs.Printing.{printed_is, printed_more, room_is, first_room, then_room}
 use Rattle.lister.proofs.Texts.{in_ms, in_s}
-use borrow.Author.Rules.{rules}
 use Rattle.lister.proofs.lines.time_text.Goals as goal
 
 pub number-next-requires : goal.number-next-requires

@@ -1,6 +1,5 @@
 -- `lister::lines::wait_data` meets its contract. Assumes nothing.
 use Rattle.lister.proofs.Printing.{printed_more}
-use borrow.Author.Rules.{rules}
 use Rattle.lister.proofs.lines.wait_data.Goals as goal
 
 pub returns : goal.returns

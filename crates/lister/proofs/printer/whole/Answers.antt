@@ -4,7 +4,6 @@ use Rattle.accepted.specs.Inside.Heads.{ends_of}
 use Rattle.lister.specs.Inside.Printed.{printed_settings, printed_body}
 use Rattle.lister.proofs.Printing.{printed_is, printed_more, room_is, first_room, then_room}
 use Rattle.lister.proofs.Setting.{listing_parts}
-use borrow.Author.Rules.{rules}
 use Rattle.lister.proofs.printer.whole.Goals as goal
 use Rattle.lister.proofs.printer.whole.Goals.{Start}
 

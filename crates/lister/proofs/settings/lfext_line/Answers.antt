@@ -5,7 +5,6 @@ use Rattle.reader.specs.Ascii.{ascii}
 use Rattle.language.specs.Table.{letters_of}
 use Rattle.lister.proofs.Printing.{printed_none, printed_is, printed_more, room_is, room_one, room_two, room_three}
 use Rattle.lister.proofs.Setting.{stands, stands_not, letters_inside, letters_are}
-use borrow.Author.Rules.{rules}
 use Rattle.lister.proofs.settings.lfext_line.Goals as goal
 
 pub put-name-requires : goal.put-name-requires

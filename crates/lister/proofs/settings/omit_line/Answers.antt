@@ -5,7 +5,6 @@ use Rattle.reader.specs.Ascii.{ascii}
 use Rattle.writer.specs.Hex.{hex_text}
 use Rattle.lister.proofs.Printing.{printed_none, printed_is, printed_more, room_is, room_one, room_two, room_three}
 use Rattle.lister.proofs.Setting.{stands, stands_not, omits_none, omits_some}
-use borrow.Author.Rules.{rules}
 use Rattle.lister.proofs.settings.omit_line.Goals as goal
 
 pub returns-then-omit-eq0 : goal.returns-then-omit-eq0

@@ -2,7 +2,6 @@
 use Rattle.reader.specs.Ascii.{ascii}
 use Rattle.lister.proofs.Printing.{printed_none, printed_is, room_is}
 use Rattle.lister.proofs.Setting.{stands, stands_not}
-use borrow.Author.Rules.{rules}
 use Rattle.lister.proofs.settings.stopbits_line.Goals as goal
 
 pub put-requires : goal.put-requires

@@ -4,7 +4,6 @@ use Rattle.language.specs.declared.Cell.{Cell}
 use Rattle.lister.specs.Inside.Names.{bare_name}
 use Rattle.lister.proofs.Printing.{printed_is, room_is}
 use Rattle.lister.proofs.Stating.{no_name}
-use borrow.Author.Rules.{rules}
 use borrow.Enum.Refused.{opened}
 use Rattle.lister.proofs.statements.bare_name.Goals as goal
 

@@ -2,7 +2,6 @@
 use mathlib.Core.List.{[], ◌∷◌}
 use Rattle.lister.specs.Inside.Printed.{word_line}
 use Rattle.lister.proofs.Printing.{printed_more, first_room, then_room}
-use borrow.Author.Rules.{rules}
 use Rattle.lister.proofs.statements.line.Goals as goal
 
 pub statement-next-requires : goal.statement-next-requires

@@ -3,7 +3,6 @@ use mathlib.Core.Path.{ap}
 use Rattle.reader.specs.Ascii.{ascii}
 use Rattle.writer.specs.Put.{decimal}
 use Rattle.lister.proofs.Printing.{printed_is, printed_more, room_is, then_room}
-use borrow.Author.Rules.{rules}
 use Rattle.lister.proofs.statements.wait_byte.Goals as goal
 
 pub number-requires : goal.number-requires

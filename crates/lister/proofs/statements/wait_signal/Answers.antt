@@ -3,7 +3,6 @@ use mathlib.Core.List.{◌++◌}
 use Rattle.reader.specs.Ascii.{ascii}
 use Rattle.language.specs.Listing.{on_text, signal_text}
 use Rattle.lister.proofs.Printing.{printed_more, first_room, then_room}
-use borrow.Author.Rules.{rules}
 use Rattle.lister.proofs.statements.wait_signal.Goals as goal
 
 pub signal_text-next-requires : goal.signal_text-next-requires

@@ -1,6 +1,5 @@
 -- `lister::statements::wait_time` meets its contract. Assumes nothing.
 use Rattle.lister.proofs.Printing.{printed_more}
-use borrow.Author.Rules.{rules}
 use Rattle.lister.proofs.statements.wait_time.Goals as goal
 
 pub returns : goal.returns

@@ -3,7 +3,6 @@ use native.Mathlib.Omega.{arith}
 use Rattle.writer.proofs.Hexes.{hex_length}
 use Rattle.lister.proofs.Printing.{printed_is, room_is}
 use Rattle.lister.proofs.Scratch.{never, enough, first_bytes_lem}
-use borrow.Author.Rules.{rules}
 use Rattle.lister.proofs.text.hex.Goals as goal
 
 pub put_first-requires : goal.put_first-requires

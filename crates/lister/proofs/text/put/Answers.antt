@@ -1,9 +1,7 @@
 -- `lister::text::put` meets its contract: each turn of the loop writes a byte. Assumes nothing.
-use Prim.Native.Nat.{◌-◌}
 use native.Mathlib.Omega.{arith}
-use lib.ListN.{length, drop, drop_of_length-le}
-use borrow.Author.Rules.{rules}
-use Rattle.lister.proofs.Printing.{Printing, begun, printed, byte_room, byte_stored}
+use lib.ListN.{drop_of_length-le}
+use Rattle.lister.proofs.Printing.{begun, printed, byte_room, byte_stored}
 use Rattle.lister.proofs.text.put.Goals as goal
 
 pub loop-i-init : goal.loop-i-init

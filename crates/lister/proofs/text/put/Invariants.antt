@@ -1,9 +1,7 @@
 -- `lister::text::put` meets its contract: each turn of the loop writes a byte. Assumes nothing.
 use Prim.Native.Nat.{◌-◌}
-use native.Mathlib.Omega.{arith}
-use lib.ListN.{length, drop, drop_of_length-le}
-use borrow.Author.Rules.{rules}
-use Rattle.lister.proofs.Printing.{Printing, begun, printed, byte_room, byte_stored}
+use lib.ListN.{length, drop}
+use Rattle.lister.proofs.Printing.{Printing}
 use Rattle.lister.proofs.text.put.Given as goal
 
 abbrev pub invariant-loop-i : goal.invariant-loop-i

@@ -1,7 +1,6 @@
 -- `lister::text::put_first` meets its contract. Assumes nothing.
 use mathlib.Core.Path.{sym}
 use lib.Seq.{length-take-le}
-use borrow.Author.Rules.{rules}
 use Rattle.lister.proofs.text.put_first.Goals as goal
 
 pub slice_bounds-put-end : goal.slice_bounds-put-end

@@ -4,7 +4,6 @@ use native.Mathlib.Omega.{arith}
 use lib.Seq.{length-take-le}
 use Rattle.lister.proofs.Printing.{printed_is, printed_more, stored}
 use Rattle.lister.proofs.Texts.{short_parts, front_few, front_room, digit_room}
-use borrow.Author.Rules.{rules}
 use Rattle.lister.proofs.text.short_hex.Goals as goal
 
 pub slice_bounds-hex-end : goal.slice_bounds-hex-end

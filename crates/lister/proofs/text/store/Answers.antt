@@ -1,7 +1,6 @@
 -- `lister::text::store` meets its contract. Assumes nothing.
 use mathlib.Core.Path.{sym}
 use lib.Seq.{set_out}
-use borrow.Author.Rules.{rules}
 use Rattle.lister.proofs.text.store.Goals as goal
 
 pub returns-else-at-out : goal.returns-else-at-out

@@ -1,7 +1,6 @@
 -- `lister::text::two_digits` meets its contract. Assumes nothing.
 use Rattle.lister.proofs.Printing.{printed_is, room_is}
 use Rattle.lister.proofs.Scratch.{two_few, never, enough, first_bytes_lem}
-use borrow.Author.Rules.{rules}
 use Rattle.lister.proofs.text.two_digits.Goals as goal
 
 pub put_first-requires : goal.put_first-requires

@@ -1,7 +1,6 @@
 -- `lister::text::unit` meets its contract. Assumes nothing.
 use Rattle.writer.specs.Put.{two_digits}
 use Rattle.lister.proofs.Printing.{printed_none, printed_is, room_is, cond_on, cond_off}
-use borrow.Author.Rules.{rules}
 use Rattle.lister.proofs.text.unit.Goals as goal
 
 pub two_digits-requires : goal.two_digits-requires

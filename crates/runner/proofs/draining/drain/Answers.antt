@@ -1,8 +1,8 @@
 -- `runner::draining::drain` meets its contract: none before i is ready, nothing is altered before the turn, and each way out is a law of `Drains`.
-use mathlib.Core.Path.{◌≡◌, refl, sym, ap, ◌∙◌}
-use Prim.Native.Nat.{◌+◌, ◌-◌, ◌<◌}
+use mathlib.Core.Path.{refl, sym, ap, ◌∙◌}
+use Prim.Native.Nat.{◌<◌}
 use native.Mathlib.Omega.{arith}
-use lib.ListN.{length, drop}
+use lib.ListN.{length}
 use borrow.Author.Rules.{rules}
 use Rattle.process.specs.declared.State.{State}
 use Rattle.runner.specs.Draining.{lowest, nobody}

@@ -1,13 +1,8 @@
 -- `runner::draining::drain` meets its contract: none before i is ready, nothing is altered before the turn, and each way out is a law of `Drains`.
-use mathlib.Core.Path.{◌≡◌, refl, sym, ap, ◌∙◌}
-use Prim.Native.Nat.{◌+◌, ◌-◌, ◌<◌}
-use native.Mathlib.Omega.{arith}
+use mathlib.Core.Path.{◌≡◌}
+use Prim.Native.Nat.{◌+◌, ◌-◌}
 use lib.ListN.{length, drop}
-use borrow.Author.Rules.{rules}
-use Rattle.process.specs.declared.State.{State}
-use Rattle.runner.specs.Draining.{lowest, nobody}
-use Rattle.runner.proofs.Lowest.{lowest_here, lowest_past, get_d_any, unmapped}
-use Rattle.runner.proofs.Drains.{idle_drains, turn_drains, kept}
+use Rattle.runner.specs.Draining.{lowest}
 use Rattle.runner.proofs.draining.drain.Given as goal
 
 abbrev pub invariant-loop-i : goal.invariant-loop-i

@@ -1,7 +1,6 @@
 -- `runner::starting::all_started` meets its contract. Assumes nothing.
 use mathlib.Core.List.{[], ◌∷◌}
 use Rattle.runner.specs.Starting.{started_from}
-use borrow.Author.Rules.{rules}
 use Rattle.runner.proofs.starting.all_started.Goals as goal
 
 pub returns : goal.returns

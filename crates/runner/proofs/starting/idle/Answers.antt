@@ -1,6 +1,5 @@
 -- `runner::starting::idle` meets its contract. Assumes nothing.
 use Rattle.language.specs.Table.{zero_table}
-use borrow.Author.Rules.{rules}
 use Rattle.runner.proofs.starting.idle.Goals as goal
 
 pub returns : goal.returns

@@ -1,7 +1,6 @@
 -- `runner::starting::start` meets its contract: the test decides. Assumes nothing.
 use mathlib.Core.Path.{sym, ◌∙◌}
 use Rattle.runner.specs.Starting.{start_event, start_counts}
-use borrow.Author.Rules.{rules}
 use Rattle.runner.proofs.starting.start.Goals as goal
 
 pub returns-then-is_accepted : goal.returns-then-is_accepted

@@ -1,5 +1,4 @@
 -- `runner::starting::start_at` meets its contract. Assumes nothing.
-use borrow.Author.Rules.{rules}
 use Rattle.runner.proofs.starting.start_at.Goals as goal
 
 pub returns : goal.returns

@@ -2,7 +2,6 @@
 use mathlib.Core.Bool.{false}
 use lib.ListN.{replicate}
 use Rattle.runner.specs.Starting.{start_state}
-use borrow.Author.Rules.{rules}
 use Rattle.runner.proofs.starting.start_state.Goals as goal
 
 pub returns : goal.returns

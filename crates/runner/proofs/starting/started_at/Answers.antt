@@ -2,7 +2,6 @@
 use mathlib.Core.Path.{sym, ◌∙◌}
 use native.Mathlib.Omega.{arith}
 use Rattle.runner.proofs.Started.{started_absent, started_first, started_next}
-use borrow.Author.Rules.{rules}
 use Rattle.runner.proofs.starting.started_at.Goals as goal
 
 pub returns-then-wide_byte-i : goal.returns-then-wide_byte-i

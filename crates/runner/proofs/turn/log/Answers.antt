@@ -1,6 +1,5 @@
 -- `runner::turn::log` meets its contract: the buffer has room, so that a record is answered. Assumes nothing.
 use Rattle.runner.proofs.Written.{logged, logged_never}
-use borrow.Author.Rules.{rules}
 use Rattle.runner.proofs.turn.log.Goals as goal
 
 pub never-requires : goal.never-requires

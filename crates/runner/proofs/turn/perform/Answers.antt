@@ -1,7 +1,6 @@
 -- `runner::turn::perform` meets its contract: each arm is a law of `Written`. Assumes nothing.
 use native.Mathlib.Omega.{arith}
 use Rattle.runner.proofs.Written.{sent_fits, logged_fits, send_performs, log_performs, other_performs}
-use borrow.Author.Rules.{rules}
 use borrow.Enum.Refused.{opened}
 use Rattle.runner.proofs.turn.perform.Goals as goal
 

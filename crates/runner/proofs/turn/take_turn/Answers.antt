@@ -2,7 +2,6 @@
 use native.Mathlib.Omega.{arith}
 use Rattle.runner.proofs.Written.{of_word}
 use Rattle.runner.proofs.Turning.{found_inside, small_turns, astray_turns, does_turn}
-use borrow.Author.Rules.{rules}
 use Rattle.runner.proofs.turn.take_turn.Goals as goal
 
 pub returns-then-out-lt-DRAIN : goal.returns-then-out-lt-DRAIN
