@@ -2,11 +2,11 @@
 
 usage: tools/run PROGRAM [WORD ..]
 
-What the program prints is passed on. A program cannot give an exit status, so this gives one: 1 where it said
+What the program prints is passed on. The programs give no exit status, so this gives one: 1 where it said
 `refused`, `bad operation` or `differs`, could not compare a case, or told an error on standard error; 2 where there was
-nothing to run; and else 0. Programs are linked for x86-64: on another processor the toolchain's emulator runs them.
+nothing to run; and else 0. `rt run` in the crate of a program links it, for x86-64 alone, as out/NAME beside src/.
 """
-import os, pathlib, platform, re, shutil, subprocess, sys, threading
+import os, pathlib, platform, re, subprocess, sys, threading
 
 ROOT = pathlib.Path(__file__).resolve().parent.parent
 TOOL = "tools/run" if __name__ == "__main__" else f"tools/{pathlib.Path(sys.argv[0]).name}"
@@ -24,26 +24,21 @@ def programs():
     return sorted(path.parent.parent.name for path in ROOT.glob("crates/*/src/main.rt"))
 
 
-def emulator():
-    if platform.machine() == "x86_64":
-        return []
-    if not shutil.which("rt"):
-        stop("no rt on the PATH: add the folder of the Rattle toolchain's command, whose emulator is needed here")
-    guide = subprocess.run(["rt", "doc"], capture_output=True, text=True).stdout.strip()
-    kit = pathlib.Path(guide).resolve().parent.parent / "on" / platform.machine() / "toolchain"
-    if not (kit / "bin/qemu-x86_64").is_file():
-        stop(f"no emulator in {kit}: take a machine with an x86-64 processor, for which programs are linked")
-    return [str(kit / "bin/qemu-x86_64"), str(kit / "lib/ld-linux-x86-64.so.2"), "--library-path", str(kit / "lib")]
+def linking(name):
+    """The command that proves and links a program, and has it print its usage."""
+    return f"(cd crates/{name} && rt run -- --help)"
 
 
 def command(name):
     """The words that start a program."""
     if name not in programs():
         stop(f"no program {name}: name one of {', '.join(programs())}")
-    linked = ROOT / "target/bin" / name
+    linked = ROOT / "crates" / name / "out" / name
     if not linked.is_file():
-        stop(f"{name} is not linked yet: run `rt check {name}` first")
-    return [*emulator(), str(linked)]
+        stop(f"{name} is not linked yet: run `{linking(name)}` first")
+    if platform.machine() != "x86_64":
+        stop(f"{name} is linked for x86-64: take a machine with such a processor")
+    return [str(linked)]
 
 
 class Passed(threading.Thread):
