@@ -1,2 +1,2 @@
--- What the contracts of `console` cite.
-pub mod Counts
+-- How far a lent buffer is filled: nothing in there has to be believed of the box
+pub mod Inside

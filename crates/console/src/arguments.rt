@@ -1,5 +1,5 @@
 // The words that a program is given after its name.
-ghost use Rattle.console.specs.Counts.{IsPrefixLen};
+ghost use Rattle.console.specs.Inside.Counts.{IsPrefixLen};
 
 use std::env::FillError;
 use std::rt::Env;

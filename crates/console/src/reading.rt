@@ -1,6 +1,6 @@
 // Files and inputs, read whole. What fails is told on standard error, by its name and the system's word.
 ghost use Rattle.std.specs.Prelude.{◌+◌, ◌≤◌, length};
-ghost use Rattle.console.specs.Counts.{IsPrefixLen};
+ghost use Rattle.console.specs.Inside.Counts.{IsPrefixLen};
 
 use crate::saying::fail;
 use std::fs::File;

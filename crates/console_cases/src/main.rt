@@ -84,8 +84,11 @@ fn say_lines<R: Read>(rt: HostRuntime, input: &mut R, name: &[u8]) {
 
 // A folder is opened as a file is, and cannot be read.
 fn say_folder(rt: HostRuntime) {
-    if let Ok(mut folder) = open(rt, b".") {
-        say_lines(rt, &mut folder, b"the folder");
+    match open(rt, b".") {
+        Ok(mut folder) => say_lines(rt, &mut folder, b"the folder"),
+        Err(_) => {
+            say_line(rt, Line::Unread, b"");
+        }
     }
 }
 

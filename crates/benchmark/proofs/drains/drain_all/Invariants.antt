@@ -1,5 +1,5 @@
 -- `benchmark::drains::drain_all` ends: it stops at the bound. Assumes nothing.
-use Rattle.std.proofs.Common.{◌≡◌, ◌-◌, length, refl, arith, rules}
+use Rattle.std.proofs.Common.{◌≡◌, ◌-◌, length}
 use Rattle.benchmark.proofs.drains.drain_all.Given as goal
 
 abbrev pub invariant-loop-count : goal.invariant-loop-count

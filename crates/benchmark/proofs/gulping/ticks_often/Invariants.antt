@@ -1,5 +1,4 @@
 -- `benchmark::gulping::ticks_often` ends: what is left falls. Assumes nothing.
-use Rattle.std.proofs.Common.{arith, rules}
 use Rattle.benchmark.proofs.gulping.ticks_often.Given as goal
 
 abbrev pub invariant-loop-left : goal.invariant-loop-left

@@ -1,5 +1,4 @@
 -- `benchmark::tables::compile_often` ends: what is left falls. Assumes nothing.
-use Rattle.std.proofs.Common.{arith, rules}
 use Rattle.benchmark.proofs.tables.compile_often.Given as goal
 
 abbrev pub invariant-loop-left : goal.invariant-loop-left

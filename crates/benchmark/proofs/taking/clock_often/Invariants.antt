@@ -1,5 +1,5 @@
 -- `benchmark::taking::clock_often` ends: what is left falls. Assumes nothing.
-use Rattle.std.proofs.Common.{◌-◌, arith, rules}
+use Rattle.std.proofs.Common.{◌-◌}
 use Rattle.benchmark.proofs.taking.clock_often.Given as goal
 
 abbrev pub invariant-loop-k : goal.invariant-loop-k

@@ -1,5 +1,5 @@
 -- `benchmark::taking::take_bytes` ends: what is left of the input falls. Assumes nothing.
-use Rattle.std.proofs.Common.{◌-◌, length, arith, rules}
+use Rattle.std.proofs.Common.{◌-◌, length}
 use Rattle.benchmark.proofs.taking.take_bytes.Given as goal
 
 abbrev pub invariant-loop-i : goal.invariant-loop-i
