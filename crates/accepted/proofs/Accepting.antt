@@ -1,4 +1,5 @@
 -- The ways out of all tests together. Assumes nothing.
+use Rattle.std.specs.Prelude.{Option, Some, None, Result, is_ok}
 use Prim.Native.Nat.{ℕ, ◌≤◌, ◌<◌}
 use mathlib.Core.Path.{◌≡◌, sym, ap, ◌∙◌}
 use mathlib.Core.Bool.{Bool, true, false}
@@ -9,10 +10,8 @@ use Rattle.reader.proofs.Tests.{both_left, both_right}
 use Rattle.language.specs.declared.Heads.{Heads}
 use Rattle.language.specs.declared.Table.{Table}
 use Rattle.language.specs.Limits.{lines_limit, process_limit}
-use Rattle.stretch.specs.declared.Measured.{Measured}
-use Rattle.stretch.specs.Inside.Measured.{measured, is_largest}
-use Rattle.accepted.specs.declared.Fit.{Fit}
-use Rattle.accepted.specs.declared.Fit.TheVariants.{To, Not}
+use Rattle.stretch.specs.declared.StretchFault.{StretchFault}
+use Rattle.stretch.specs.Inside.Measured.{measured}
 use Rattle.accepted.specs.Accepted.{table_right}
 use Rattle.accepted.specs.Inside.Heads.{rising, ends_of, in_use, ends_right, settings_fit}
 use Rattle.accepted.specs.Inside.Cells.{cells_fit}
@@ -24,7 +23,7 @@ use Rattle.accepted.proofs.EndsFit.{reached_not, Reached, reached_to}
 
 -- ---- the heads
 
-module _ (h : Heads) {r : Fit} {n : ℕ} (told : r ≡ reaches (ends_right h) (in_use h)) (to : r ≡ To n) where
+module _ (h : Heads) {r : Option ℕ} {n : ℕ} (told : r ≡ reaches (ends_right h) (in_use h)) (to : r ≡ Some n) where
   ended : Reached (ends_right h) (in_use h) n
   ended = reached_to _ _ n (sym told ∙ to)
 
@@ -45,7 +44,7 @@ module _ (h : Heads) {r : Fit} {n : ℕ} (told : r ≡ reaches (ends_right h) (i
 
 -- ---- all tests
 
-module _ (t : Table) (ty : Typed t) (by : Bytes t.heads) {r : Fit} (told : r ≡ reaches (ends_right t.heads) (in_use t.heads)) where
+module _ (t : Table) (ty : Typed t) (by : Bytes t.heads) {r : Option ℕ} (told : r ≡ reaches (ends_right t.heads) (in_use t.heads)) where
   abbrev h : Heads
   h = t.heads
 
@@ -53,11 +52,11 @@ module _ (t : Table) (ty : Typed t) (by : Bytes t.heads) {r : Fit} (told : r ≡
   tested : {v : Bool} → v ≡ table_passes t.cells t.pool h → v ≡ table_right t
   tested e = e ∙ decides t ty by
 
-  pub not_ends : r ≡ Not → false ≡ table_right t
+  pub not_ends : r ≡ None → false ≡ table_right t
   unfolding table_passes fits
   not_ends e = tested (rw (reached_not (ends_right h) _ (sym told ∙ e)))
 
-  module _ {n : ℕ} (to : r ≡ To n) {a : Bool} (fit : a ≡ cells_fit n t.cells t.pool h.used) where
+  module _ {n : ℕ} (to : r ≡ Some n) {a : Bool} (fit : a ≡ cells_fit n t.cells t.pool h.used) where
     cells : a ≡ cells_right t.cells t.pool h
     cells = fit ∙ ap (λ (k : ℕ). cells_fit k t.cells t.pool h.used) (sym (in_use_is h told to))
 
@@ -80,9 +79,9 @@ module _ (t : Table) (ty : Typed t) (by : Bytes t.heads) {r : Fit} (told : r ≡
             let z : lines_limit < lines_in h = omega arith in
             tested (rw (ends, sym cells ∙ cells-so, sym settings ∙ settings-so, lt-leb (lines_in h) lines_limit z))
 
-        module _ (few : m ≤ lines_limit) {x y : Measured} (measure : x ≡ measured t.cells h) (is : x ≡ y) where
-          pub as_measured : {v : Bool} → v ≡ is_largest y → v ≡ table_right t
+        module _ (few : m ≤ lines_limit) {x : Result ℕ StretchFault} (measure : x ≡ measured t.cells h) where
+          pub as_measured : {v : Bool} → v ≡ is_ok x → v ≡ table_right t
           unfolding table_passes fits
           as_measured e =
               let z : lines_in h ≤ lines_limit = omega arith in
-              tested (e ∙ rw (ends, sym cells ∙ cells-so, sym settings ∙ settings-so, le-leb (lines_in h) lines_limit z, sym measure ∙ is))
+              tested (e ∙ rw (ends, sym cells ∙ cells-so, sym settings ∙ settings-so, le-leb (lines_in h) lines_limit z, sym measure))

@@ -1,19 +1,20 @@
--- A scan for zeros that carries a flag, whatever the width of the elements: the flag and those from i on decide. Assumes nothing.
-use Prim.Native.Nat.{ℕ, ◌+◌, ◌≤◌, ◌<◌}
+-- A fold over elements that all must be zero, whatever their width. Assumes nothing.
+use Rattle.std.specs.Prelude.{fold}
+use Prim.Native.Nat.{ℕ}
 use mathlib.Core.Path.{◌≡◌, sym, ◌∙◌}
-use mathlib.Core.Bool.{Bool, ◌&&◌, and_assoc, and-true}
-use mathlib.Core.List.{List}
-use native.Mathlib.Numerals.{add-one}
-use lib.ListN.{length, drop, get_or}
-use lib.Seq.{drop-cons}
-use Rattle.reader.proofs.Each.{each_end}
+use mathlib.Core.Bool.{Bool, true, ◌&&◌, and_assoc, and-true}
+use mathlib.Core.List.{List, [], ◌∷◌}
+use lib.Dec.{eqb}
 use Rattle.accepted.specs.Inside.Heads.{is_zero, all_zero}
 
-module _ (s : List ℕ) (from i : ℕ) (zero : Bool) (told : all_zero (drop from s) ≡ (zero && all_zero (drop i s))) where
-  pub zero_on : i < length s → {next : Bool} → next ≡ (zero && is_zero (get_or s i 0)) → all_zero (drop from s) ≡ (next && all_zero (drop (i + 1) s))
-  unfolding all_zero
-  zero_on h e = told ∙ rw (e, add-one, drop-cons s i 0) (sym (and_assoc zero (is_zero (get_or s i 0)) _))
+-- what `zeros::all_from` answers of zero
+abbrev pub zeros_fold : Bool → List ℕ → Bool
+zeros_fold t l = fold (λ (all : Bool) (y : ℕ). all && eqb y 0) t l
 
-  pub zero_end : length s ≤ i → zero ≡ all_zero (drop from s)
-  unfolding all_zero
-  zero_end h = sym (told ∙ rw (each_end is_zero s i h) (and-true zero))
+zeros_from : (t : Bool) (l : List ℕ) → zeros_fold t l ≡ (t && all_zero l)
+unfolding all_zero
+zeros_from t [] = sym (and-true t)
+zeros_from t (y ∷ l) = zeros_from (t && is_zero y) l ∙ and_assoc t (is_zero y) (all_zero l)
+
+pub zeros_are : (l : List ℕ) {r : Bool} → r ≡ zeros_fold true l → r ≡ all_zero l
+zeros_are l e = e ∙ zeros_from true l

@@ -1,18 +1,18 @@
 -- What the tests of data decide. Assumes nothing.
-use Prim.Native.Nat.{ℕ, ◌+◌, ◌-◌, ◌*◌, ◌≤◌, ◌<◌}
-use mathlib.Core.Path.{◌≡◌, sym, ap, ◌∙◌}
+use Rattle.std.specs.Prelude.{Some, None}
+use Prim.Native.Nat.{ℕ, ◌+◌, ◌*◌, ◌≤◌, ◌<◌}
+use mathlib.Core.Path.{◌≡◌, sym, ◌∙◌}
 use mathlib.Core.Bool.{Bool, true, false, ◌&&◌}
 use mathlib.Core.List.{List}
 use native.Mathlib.Omega.{arith}
-use lib.ListN.{length, take, drop}
+use lib.ListN.{length}
 use borrow.Author.Tests.{eq-eqb, ne_eqb, le-leb, lt-leb}
 use Rattle.reader.specs.Bytes.{all}
+use Rattle.reader.proofs.Tests.{and_false}
 use Rattle.language.specs.declared.Span.{Span}
 use Rattle.language.specs.Listing.{last_in_one}
 use Rattle.language.specs.Right.{is_byte, in_line, data_right}
-use Rattle.language.specs.Table.{data_at}
 use Rattle.language.proofs.LastDigit.{not_one}
-use Rattle.accepted.specs.declared.Fit.TheVariants.{To, Not}
 use Rattle.accepted.specs.Inside.Cells.{follows}
 use Rattle.accepted.specs.Inside.EndsFit.{reaches}
 
@@ -38,21 +38,14 @@ module _ (room : ℕ) (bs : List ℕ) (bytes : all is_byte bs ≡ true) where
 
 -- ---- data that begin at a place, and are right
 
-module _ (right : List ℕ → Bool) (pool : List ℕ) (at : ℕ) (s : Span) {f n : ℕ} (from : f ≡ s.from) (count : n ≡ s.count) where
-  held : take (f + n - f) (drop f pool) ≡ data_at pool s
-  held = let e : f + n - f ≡ s.count = omega arith in rw (e, from)
-
-  pub elsewhere : (f ≡ at → ⊥) → Not ≡ reaches (follows at s && right (data_at pool s)) (at + s.count)
+module _ (s : Span) (at : ℕ) (right : Bool) where
+  pub elsewhere : (s.from ≡ at → ⊥) → None ≡ reaches (follows at s && right) (at + s.count)
   unfolding follows
-  elsewhere h = let k : s.from ≡ at → ⊥ = λ e. h (from ∙ e) in rw (ne_eqb s.from at k)
+  elsewhere h = rw (ne_eqb s.from at h)
 
-  module _ (here : f ≡ at) {t : Bool} (told : t ≡ right (take (f + n - f) (drop f pool))) where
-    pub not_right : t ≡ false → Not ≡ reaches (follows at s && right (data_at pool s)) (at + s.count)
-    unfolding follows
-    not_right e = rw (eq-eqb s.from at (sym from ∙ here), sym (ap right held), sym told ∙ e)
+  pub not_right : right ≡ false → None ≡ reaches (follows at s && right) (at + s.count)
+  not_right e = rw (e, and_false (follows at s))
 
-    pub all_right_lem : t ≡ true → To (f + n) ≡ reaches (follows at s && right (data_at pool s)) (at + s.count)
-    unfolding follows
-    all_right_lem e =
-        let k : f + n ≡ at + s.count = omega arith in
-        rw (eq-eqb s.from at (sym from ∙ here), sym (ap right held), sym told ∙ e, k)
+  pub here_right : s.from ≡ at → {f n : ℕ} → f ≡ s.from → n ≡ s.count → right ≡ true → Some (f + n) ≡ reaches (follows at s && right) (at + s.count)
+  unfolding follows
+  here_right h {f} {n} from count e = let k : f + n ≡ at + s.count = omega arith in rw (eq-eqb s.from at h, e, k)

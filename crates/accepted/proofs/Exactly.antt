@@ -1,4 +1,5 @@
 -- THE TEST IS EXACT: a table passes it exactly if there is a text that compiles to it. Assumes nothing.
+use Rattle.std.specs.Prelude.{Ok, Err}
 use Prim.Native.Nat.{ℕ}
 use mathlib.Core.Path.{◌≡◌, refl, sym, ap}
 use mathlib.Core.Bool.{Bool, true, false}
@@ -10,8 +11,6 @@ use Rattle.reader.proofs.Tests.{both_left, both_right, both}
 use Rattle.reader.proofs.Same.{same_is, is_same}
 use Rattle.language.specs.declared.Heads.{Heads}
 use Rattle.language.specs.declared.Table.{Table}
-use Rattle.language.specs.declared.Answer.{Answer}
-use Rattle.language.specs.declared.Answer.TheVariants.{Accepted, Refused}
 use Rattle.language.specs.declared.Compiled.{Compiled}
 use Rattle.language.specs.Script.{Script}
 use Rattle.language.specs.Stretch.{stretch_of, largest}
@@ -19,7 +18,7 @@ use Rattle.language.specs.Listing.{listing}
 use Rattle.language.specs.Right.{is_byte, settings_right, script_right}
 use Rattle.language.specs.Draft.{Result, accepted, refused, result_of}
 use Rattle.language.specs.Table.{laid_out, script_of}
-use Rattle.language.specs.Answer.{answered, script_from, compiled}
+use Rattle.language.specs.Answer.{CompilerAnswer, refusal_of, answered, script_from, compiled}
 use Rattle.language.proofs.Good.{good}
 use Rattle.language.proofs.Tables.{script_back}
 use Rattle.language.proofs.Trip.{right_accepted, accepted_right}
@@ -120,7 +119,7 @@ laid_right s h =
 pub record Compiles (t : Table) (text : List ℕ) : Type 0 where
   pub bytes : all is_byte text ≡ true
   pub stretch : ℕ
-  pub result : compiled text ≡ record { answer = Accepted stretch; table = t }
+  pub result : compiled text ≡ record { answer = Ok stretch; table = t }
 
 -- a table that passes is that of a text, the listing of its script
 pub right_compiles : (t : Table) → table_right t ≡ true → Compiles t (listing (script_of t))
@@ -130,18 +129,18 @@ right_compiles t h =
     record {
       bytes = has.bytes;
       stretch = largest (script_of t).body;
-      result = rw has.result (ap (λ (u : Table). record { answer = Accepted (largest (script_of t).body); table = u }) (laid_out_lem t h));
+      result = rw has.result (ap (λ (u : Table). record { answer = Ok (largest (script_of t).body); table = u }) (laid_out_lem t h));
     }
 
 -- and only such a table is
 compiled_right : (r : Result) (text : List ℕ) (t : Table) (k : ℕ) → all is_byte text ≡ true → result_of stretch_of text ≡ r
-    → answered r ≡ record { answer = Accepted k; table = t } → table_right t ≡ true
+    → answered r ≡ record { answer = Ok k; table = t } → table_right t ≡ true
 unfolding answered
 compiled_right (accepted s) text t k b e a =
     let right-s = accepted_right stretch_of s text (record { bytes = b; result = e }) in
     let same-table : laid_out s ≡ t = ap (λ (c : Compiled). c.table) a in
     rw same-table at (laid_right s right-s)
-compiled_right (refused f row column) text t k b e a = let z : ◌≡◌ {A = Answer} (Refused f row column) (Accepted k) = ap (λ (c : Compiled). c.answer) a in cc
+compiled_right (refused f row column) text t k b e a = let z : ◌≡◌ {A = CompilerAnswer} (Err (refusal_of f row column)) (Ok k) = ap (λ (c : Compiled). c.answer) a in cc
 
 pub compiles_right : (t : Table) (text : List ℕ) → Compiles t text → table_right t ≡ true
 unfolding compiled script_from

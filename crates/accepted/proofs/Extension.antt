@@ -1,40 +1,20 @@
 -- The letters of LFEXT, up to the first zero. Assumes nothing.
-use Prim.Native.Nat.{ℕ, suc, ◌+◌, ◌-◌, ◌≤◌, ◌<◌}
+use Rattle.std.specs.Prelude.{Option, Some, None, unwrap_or}
+use Rattle.std.specs.List.{list_all, position_or_len}
+use Prim.Native.Nat.{ℕ, ◌+◌, ◌-◌, ◌≤◌, ◌<◌}
 use mathlib.Core.Path.{◌≡◌, refl, sym, ap, ◌∙◌}
-use mathlib.Core.Bool.{Bool, true, false, cond, not}
+use mathlib.Core.Bool.{Bool, true, false, cond, not, ◌&&◌}
 use mathlib.Core.List.{List, [], ◌∷◌}
 use native.Mathlib.Omega.{arith}
-use native.Mathlib.Numerals.{add-one}
-use lib.Dec.{eqb}
-use lib.ListN.{length, take, drop, get_or, drop_of_length-le}
-use lib.Seq.{drop-cons}
-use borrow.Author.Tests.{eq-eqb, ne_eqb, lt-ltb, le-ltb, le-leb, lt-leb}
+use lib.Dec.{eqb, ltb}
+use lib.ListN.{length, take, drop, length-take}
+use borrow.Author.Tests.{lt-ltb, le-ltb, le-leb, lt-leb, ltb-false}
 use Rattle.reader.specs.Ascii.{ascii}
 use Rattle.reader.specs.Bytes.{all, same}
 use Rattle.words.specs.Words.{is_named}
 use Rattle.language.specs.Meaning.{extension, is_capital}
 use Rattle.language.specs.Table.{letters_of}
 use Rattle.accepted.specs.Inside.Heads.{all_zero, extension_fits}
-
--- the letters from i on, i of them standing before
-pub record Lettering (e : List ℕ) (i : ℕ) : Type 0 where
-  pub whole : length (letters_of e) ≡ i + length (letters_of (drop i e))
-
-module _ {e : List ℕ} {i : ℕ} (l : Lettering e i) where
-  pub letters_past : length e ≤ i → i ≡ length (letters_of e)
-  unfolding letters_of
-  letters_past h = let d : length (letters_of (drop i e)) ≡ 0 = rw (drop_of_length-le e h) in omega (arith, l.whole)
-
-  module _ (h : i < length e) where
-    pub letters_end : get_or e i 0 ≡ 0 → i ≡ length (letters_of e)
-    unfolding letters_of
-    letters_end z = let d : length (letters_of (drop i e)) ≡ 0 = rw (drop-cons e i 0 h, eq-eqb (get_or e i 0) 0 z) in omega (arith, l.whole)
-
-    pub letters_on : (get_or e i 0 ≡ 0 → ⊥) → Lettering e (i + 1)
-    unfolding letters_of
-    letters_on n =
-        let d : length (letters_of (drop i e)) ≡ suc (length (letters_of (drop (i + 1) e))) = rw (add-one i, drop-cons e i 0 h, ne_eqb (get_or e i 0) 0 n) in
-        record { whole = omega (arith, l.whole) }
 
 -- the letters are the first bytes
 pub letters_first : (e : List ℕ) → take (length (letters_of e)) e ≡ letters_of e
@@ -45,6 +25,35 @@ letters_first (b ∷ l) = go (eqb b 0) (letters_first l)
     go : (t : Bool) → take (length (letters_of l)) l ≡ letters_of l → take (length (cond t [] (b ∷ letters_of l))) (b ∷ l) ≡ cond t [] (b ∷ letters_of l)
     go true e = refl
     go false e = ap (λ (m : List ℕ). b ∷ m) e
+
+-- they stand before the first zero
+letters_before : (e : List ℕ) → position_or_len (λ (b : ℕ). eqb b 0) e ≡ length (letters_of e)
+unfolding letters_of
+letters_before [] = refl
+letters_before (b ∷ l) = go (eqb b 0) (letters_before l)
+  where
+    go : (t : Bool) → position_or_len (λ (b : ℕ). eqb b 0) l ≡ length (letters_of l)
+        → cond (not t) (1 + position_or_len (λ (b : ℕ). eqb b 0) l) 0 ≡ length (cond t [] (b ∷ letters_of l))
+    go true e = refl
+    go false e = omega (arith, e)
+
+-- the first place of a zero tells how many they are; where there is none, all are
+pub letters_position : (e : List ℕ) {p : Option ℕ} → p ≡ cond (ltb (position_or_len (λ (b : ℕ). eqb b 0) e) (length e)) (Some (position_or_len (λ (b : ℕ). eqb b 0) e)) None
+    → unwrap_or p (length e) ≡ length (letters_of e)
+letters_position e h = rw h (go (ltb (position_or_len (λ (b : ℕ). eqb b 0) e) (length e)) refl)
+  where
+    few : length (letters_of e) ≤ length e
+    few = omega (arith, length-take (length (letters_of e)) e, ap length (letters_first e))
+
+    go : (t : Bool) → ltb (position_or_len (λ (b : ℕ). eqb b 0) e) (length e) ≡ t
+        → unwrap_or (cond t (Some (position_or_len (λ (b : ℕ). eqb b 0) e)) None) (length e) ≡ length (letters_of e)
+    go true q = letters_before e
+    go false q = omega (arith, ltb-false (position_or_len (λ (b : ℕ). eqb b 0) e) (length e) q, letters_before e, few)
+
+-- every one, in the words of std
+pub all_is : (p : ℕ → Bool) (l : List ℕ) → list_all p l ≡ all p l
+all_is p [] = refl
+all_is p (b ∷ l) = ap (λ (t : Bool). p b && t) (all_is p l)
 
 module _ (e : List ℕ) {n : ℕ} (is : n ≡ length (letters_of e)) where
   first : take n e ≡ letters_of e
@@ -79,12 +88,6 @@ module _ (e : List ℕ) {n : ℕ} (is : n ≡ length (letters_of e)) where
           z ∙ rw (lt-ltb 0 (length (letters_of e)) more, le-leb (length (letters_of e)) 3 few, sym (ap (all is_capital) first), sym told ∙ f, is)
 
   module _ {t : Bool} (told : t ≡ is_named e 0 n (ascii "LOG")) where
-    named : t ≡ same (letters_of e) (ascii "LOG")
+    pub named : t ≡ same (letters_of e) (ascii "LOG")
     unfolding is_named
     named = let z : n - 0 ≡ n = omega arith in told ∙ rw (z, first)
-
-    pub is_log_lem : t ≡ true → false ≡ not (same (letters_of e) (ascii "LOG"))
-    is_log_lem h = sym (ap not (sym named ∙ h))
-
-    pub is_other : t ≡ false → true ≡ not (same (letters_of e) (ascii "LOG"))
-    is_other h = sym (ap not (sym named ∙ h))

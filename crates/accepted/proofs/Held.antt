@@ -1,22 +1,26 @@
 -- Which bytes a line holds, and which LOG text. Assumes nothing.
-use Prim.Native.Nat.{ℕ, ◌≤◌, ◌<◌}
-use mathlib.Core.Path.{◌≡◌, sym, ◌∙◌}
-use mathlib.Core.Bool.{Bool, true, false}
-use mathlib.Core.List.{List}
-use lib.ListN.{length}
-use borrow.Author.Tests.{lt-ltb, ne_eqb, le-leb, lt-leb}
+use Rattle.std.specs.List.{list_any}
+use Prim.Native.Nat.{ℕ, suc, ◌≤◌, ◌<◌}
+use mathlib.Core.Path.{◌≡◌, refl, sym, ◌∙◌}
+use mathlib.Core.Bool.{Bool, true, false, not, ◌&&◌, ◌||◌}
+use mathlib.Core.List.{List, [], ◌∷◌}
+use lib.ListN.{length, get_or}
+use borrow.Author.Tests.{lt-ltb, le-leb, lt-leb}
+use lib.Dec.{eqb}
 use Rattle.reader.specs.Bytes.{all}
 use Rattle.language.specs.Limits.{log_room}
 use Rattle.language.specs.Meaning.{signs}
 use Rattle.language.specs.Right.{is_byte, in_line, log_right}
 
-pub stays : (b : ℕ) → b < 256 → (b ≡ 10 → ⊥) → in_line b ≡ true
+-- a line holds bytes of which none is an LF
+pub no_lf : (text : List ℕ) → ((i : ℕ) → get_or text i 0 < 256) → not (list_any (λ (y : ℕ). eqb y 10) text) ≡ all in_line text
 unfolding in_line is_byte
-stays b h n = rw (lt-ltb b 256 h, ne_eqb b 10 n)
-
-pub ends_line : (b : ℕ) → b ≡ 10 → in_line b ≡ false
-unfolding in_line is_byte
-ends_line b e = rw e
+no_lf [] h = refl
+no_lf (b ∷ l) h = rw (lt-ltb b 256 (h 0)) (go (eqb b 10) (no_lf l (λ i. h (suc i))))
+  where
+    go : (t : Bool) → not (list_any (λ (y : ℕ). eqb y 10) l) ≡ all in_line l → not (t || list_any (λ (y : ℕ). eqb y 10) l) ≡ (not t && all in_line l)
+    go true e = refl
+    go false e = e
 
 module _ (text : List ℕ) where
   pub log_long : log_room < length text → false ≡ log_right text

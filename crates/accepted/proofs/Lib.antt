@@ -15,4 +15,5 @@ pub mod Fitting
 pub mod Others
 pub mod Held
 pub mod AllZero
+pub mod Counts
 pub mod Examples

@@ -7,123 +7,72 @@ ghost use Rattle.accepted.specs.Inside.EndsFit.{reaches};
 ghost use Rattle.accepted.specs.Inside.CellsFit.{word_reach, words_reach};
 ghost use Rattle.language.specs.Limits.{line_limit, pool_places};
 
-use crate::Fit;
 use crate::data_fit::{in_line, log_right};
-use crate::zeros::{bytes_zero, words_zero};
+use crate::zeros::all_from;
 use cells::decoder::decode;
 use language::last_digit::last_in_one;
 use language::{Cell, Cells, DATA, Pool, SEND_ROOM, Span, WAIT_ROOM};
-use reader::widths::wide;
 
 // Whether a line has room for data: in hex, the last byte in one digit if need be, or, with no LF among them, as text.
 fn data_right(data: &[u8], room: usize) -> bool
     requires { room ≤ line_limit }
     ensures { result ≡ data_right room «data».now }
 {
-    if room < data.len() {
-        return false;
-    }
-    if data.len() * 2 <= room {
-        return true;
-    }
-    if last_in_one(data, room) {
-        return true;
-    }
-    in_line(data)
+    data.len() <= room && (data.len() * 2 <= room || last_in_one(data, room) || in_line(data))
 }
 
-// Where data end that begin at `at`, if a line has room for them.
-fn after_data(s: Span, pool: &Pool, at: usize, room: usize) -> Fit
-    requires { (s.from + s.count ≤ pool_places) × (room ≤ line_limit) }
-    ensures { result ≡ reaches (follows at s && data_right room (data_at pool.now s)) (at + s.count) }
-{
-    let bytes: &[u8] = pool;
-    let from = wide(s.from);
-    let end = from + wide(s.count);
-    if from != at {
-        return Fit::Not;
-    }
-    if data_right(&bytes[from..end], room) {
-        return Fit::To(end);
-    }
-    Fit::Not
-}
-
-// Where a LOG text ends that begins at `at`, if a line can have it.
-fn after_log(s: Span, pool: &Pool, at: usize) -> Fit
+// The bytes of a cell's data.
+fn data_of(s: Span, pool: &Pool) -> &[u8]
     requires { s.from + s.count ≤ pool_places }
-    ensures { result ≡ reaches (follows at s && log_right (data_at pool.now s)) (at + s.count) }
+    ensures { result.now ≡ data_at pool.now s }
 {
-    let bytes: &[u8] = pool;
-    let from = wide(s.from);
-    let end = from + wide(s.count);
-    if from != at {
-        return Fit::Not;
+    let from = usize::from(s.from);
+    &pool[from..from + usize::from(s.count)]
+}
+
+// Where data end that are right, if they begin at `at`.
+fn after(s: Span, at: usize, right: bool) -> Option<usize>
+    ensures { result ≡ reaches (follows at s && right) (at + s.count) }
+{
+    let from = usize::from(s.from);
+    if from == at && right {
+        Some(from + usize::from(s.count))
+    } else {
+        None
     }
-    if log_right(&bytes[from..end]) {
-        return Fit::To(end);
-    }
-    Fit::Not
 }
 
 // Where the data of a cell end, `at` being where those before it end, if it says a statement that a line can have.
-fn after_word(w: u32, pool: &Pool, at: usize) -> Fit
+fn after_word(w: u32, pool: &Pool, at: usize) -> Option<usize>
     ensures { result ≡ word_reach pool.now at w }
 {
-    let c = decode(w);
-    match c {
-        Cell::Nothing => Fit::Not,
-        Cell::Send(s) => after_data(s, pool, at, SEND_ROOM),
-        Cell::WaitData(s) => after_data(s, pool, at, WAIT_ROOM),
-        Cell::Log(s) => after_log(s, pool, at),
-        Cell::Unknown => Fit::Not,
-        _ => Fit::To(at),
+    match decode(w) {
+        Cell::Nothing => None,
+        Cell::Send(s) => after(s, at, data_right(data_of(s, pool), SEND_ROOM)),
+        Cell::WaitData(s) => after(s, at, data_right(data_of(s, pool), WAIT_ROOM)),
+        Cell::Log(s) => after(s, at, log_right(data_of(s, pool))),
+        Cell::Unknown => None,
+        _ => Some(at),
     }
 }
 
 // Where the data of the first cells end, if each says a statement that a line can have and their data follow each other.
-fn data_end<'a>(cells: &'a Cells, pool: &'a Pool, in_use: usize) -> Fit
+fn data_end<'a>(cells: &'a Cells, pool: &'a Pool, in_use: usize) -> Option<usize>
     ensures { result ≡ words_reach pool.now 0 (take in_use cells.now) }
 {
-    let words: &[u32] = cells;
     let mut at = 0usize;
-    let mut i = 0usize;
-    while i < words.len() {
-        if in_use <= i {
-            return Fit::To(at);
-        }
-        let one = after_word(words[i], pool, at);
-        match one {
-            Fit::To(end) => {
-                at = end;
-                i += 1;
-            }
-            Fit::Not => {
-                return Fit::Not;
-            }
-        }
+    for w in &cells[..in_use.min(cells.len())] {
+        at = after_word(*w, pool, at)?;
     }
-    Fit::To(at)
+    Some(at)
 }
 
 /// Whether the first cells are right, with nothing after them nor after the bytes that are used.
 pub(crate) fn cells_right<'a>(cells: &'a Cells, pool: &'a Pool, in_use: usize, used: usize) -> bool
     ensures { result ≡ cells_fit in_use cells.now pool.now used }
 {
-    let reach = data_end(cells, pool, in_use);
-    match reach {
-        Fit::To(end) => {
-            if used != end {
-                return false;
-            }
-            if DATA < used {
-                return false;
-            }
-            if words_zero(cells, in_use) {
-                return bytes_zero(pool, used);
-            }
-            false
-        }
-        Fit::Not => false,
-    }
+    used <= DATA
+        && data_end(cells, pool, in_use) == Some(used)
+        && all_from(cells, in_use, &0)
+        && all_from(pool, used, &0)
 }

@@ -10,25 +10,12 @@ use language::signs::right_signs;
 pub(crate) fn in_line(text: &[u8]) -> bool
     ensures { result ≡ all in_line text.now }
 {
-    let mut i = 0usize;
-    while i < text.len() {
-        if text[i] == b'\n' {
-            return false;
-        }
-        i += 1;
-    }
-    true
+    !text.contains(&b'\n')
 }
 
 /// Whether a line can have this LOG text.
 pub(crate) fn log_right(text: &[u8]) -> bool
     ensures { result ≡ log_right text.now }
 {
-    if LOG_ROOM < text.len() {
-        return false;
-    }
-    if right_signs(text) {
-        return in_line(text);
-    }
-    false
+    text.len() <= LOG_ROOM && right_signs(text) && in_line(text)
 }

@@ -3,48 +3,31 @@ ghost use Rattle.std.specs.Prelude.{◌≡◌, take};
 ghost use Rattle.accepted.specs.Inside.Heads.{ends_right, in_use};
 ghost use Rattle.accepted.specs.Inside.EndsFit.{reaches, ends_reach};
 
-use crate::Fit;
-use crate::zeros::ends_zero;
+use crate::zeros::all_from;
 use language::{CELL_PLACES, Heads, PROCESSES};
-use reader::widths::wide;
 
 // Each process ends where it begins or later, and within the cells: the last end.
-fn last_end(ends: &[u16], processes: usize) -> Fit
+fn last_end(ends: &[u16], processes: usize) -> Option<usize>
     ensures { result ≡ ends_reach 0 (take processes ends.now) }
 {
     let mut last = 0usize;
-    let mut i = 0usize;
-    while i < ends.len() {
-        if processes <= i {
-            return Fit::To(last);
-        }
-        let end = wide(ends[i]);
-        if end < last {
-            return Fit::Not;
-        }
-        if CELL_PLACES < end {
-            return Fit::Not;
+    for end in &ends[..processes.min(ends.len())] {
+        let end = usize::from(*end);
+        if end < last || CELL_PLACES < end {
+            return None;
         }
         last = end;
-        i += 1;
     }
-    Fit::To(last)
+    Some(last)
 }
 
 // How many cells are in use, if the ends of the processes are right.
-pub(crate) fn cells_in_use(heads: Heads) -> Fit
+pub(crate) fn cells_in_use(heads: Heads) -> Option<usize>
     ensures { result ≡ reaches (ends_right heads) (in_use heads) }
 {
-    let ends = heads.ends;
-    let processes = heads.processes as usize;
-    if processes < 1 {
-        return Fit::Not;
+    let processes = usize::from(heads.processes);
+    if processes < 1 || PROCESSES < processes || !all_from(&heads.ends, processes, &0) {
+        return None;
     }
-    if PROCESSES < processes {
-        return Fit::Not;
-    }
-    if ends_zero(ends, processes) {
-        return last_end(&ends, processes);
-    }
-    Fit::Not
+    last_end(&heads.ends, processes)
 }

@@ -9,7 +9,7 @@ use crate::cells_fit::cells_right;
 use crate::ends::cells_in_use;
 use crate::settings::settings_fit;
 use language::{Cells, Heads, LINES, Pool};
-use stretch::{Measured, largest};
+use stretch::largest;
 
 mod cells_fit;
 mod data_fit;
@@ -18,37 +18,15 @@ mod lines;
 pub mod settings;
 mod zeros;
 
-// How far a pass over the ends or the cells comes: to a place, or not to the end.
-#[derive(Clone, Copy)]
-pub enum Fit {
-    To(usize),
-    Not,
-}
-
 /// Whether some accepted script has this table.
 pub fn is_accepted<'a>(cells: &'a Cells, pool: &'a Pool, heads: Heads) -> bool
     ensures { result ≡ table_right (table cells.now pool.now heads) }
 {
-    // A slice tells how long it is, which the test rests on.
-    let words: &[u32] = cells;
-    let bytes: &[u8] = pool;
-    let reach = cells_in_use(heads);
-    match reach {
-        Fit::To(in_use) => {
-            if cells_right(cells, pool, in_use, heads.used as usize) {
-                if settings_fit(heads) {
-                    if lines::lines(heads, in_use) <= LINES {
-                        let measured = largest(cells, heads);
-                        return match measured {
-                            Measured::Largest(_) => true,
-                            Measured::Over(_) => false,
-                            Measured::Broken => false,
-                        };
-                    }
-                }
-            }
-            false
-        }
-        Fit::Not => false,
-    }
+    let Some(in_use) = cells_in_use(heads) else {
+        return false;
+    };
+    cells_right(cells, pool, in_use, usize::from(heads.used))
+        && settings_fit(heads)
+        && lines::lines(heads, in_use) <= LINES
+        && largest(cells, heads).is_ok()
 }

@@ -9,6 +9,8 @@ use lib.Dec.{ltb, leb, eqb}
 use lib.ListN.{length, take, drop, length-append, length-replicate, length-take}
 use lib.Seq.{get_or-take}
 use borrow.Author.Tests.{ltb-true, leb-true, eqb-true}
+use Rattle.std.specs.Prelude as std
+use Rattle.std.specs.Prelude.{Ok, Err, is_ok}
 use Rattle.reader.specs.Bytes.{all}
 use Rattle.reader.proofs.Tests.{both_left, both_right, both, true_is_false}
 use Rattle.figures.specs.Flat.{fragments, marks_nest}
@@ -17,8 +19,6 @@ use Rattle.figures.specs.Written.{written, run, longest_run}
 use Rattle.figures.specs.Cap.{limit}
 use Rattle.language.specs.declared.Heads.{Heads}
 use Rattle.language.specs.declared.Table.{Table}
-use Rattle.language.specs.declared.Answer.{Answer}
-use Rattle.language.specs.declared.Answer.TheVariants.{Accepted, Refused}
 use Rattle.language.specs.declared.Compiled.{Compiled}
 use Rattle.language.specs.Limits.{lines_limit, data_limit, omit_limit, process_limit}
 use Rattle.language.specs.Script.{Statement, Script, processes}
@@ -27,13 +27,12 @@ use Rattle.language.specs.Right as right
 use Rattle.language.specs.Right.{is_byte, settings_right, all_below, script_right}
 use Rattle.language.specs.Draft.{Result, accepted, refused, result_of}
 use Rattle.language.specs.Table.{padded, words_from, ends_from, heads_of, laid_out, script_of}
-use Rattle.language.specs.Answer.{answered, script_from, compiled}
+use Rattle.language.specs.Answer.{CompilerAnswer, refusal_of, answered, script_from, compiled}
 use Rattle.language.proofs.Good.{Good, good}
 use Rattle.language.proofs.Trip.{accepted_right}
-use Rattle.stretch.specs.declared.Measured.{Measured}
-use Rattle.stretch.specs.declared.Measured.TheVariants.{Largest, Over, Broken}
+use Rattle.stretch.specs.declared.StretchFault.{StretchFault}
 use Rattle.stretch.specs.Marks.{marks_between, begins_at, ends_at, marks_to}
-use Rattle.stretch.specs.Inside.Measured.{measured, is_largest}
+use Rattle.stretch.specs.Inside.Measured.{measured}
 use Rattle.stretch.specs.Reported.{AtMost}
 use Rattle.stretch.proofs.Marking.{marks_between_lem}
 use Rattle.stretch.proofs.Places.{measured_each}
@@ -61,7 +60,7 @@ pub record Fitting (t : Table) (k : ℕ) : Type 0 where
   pub started : table_right t ≡ true
   pub bounded : k ≤ limit
   pub reported : largest (script_of t).body ≡ k
-  pub measures : measured t.cells t.heads ≡ Largest k
+  pub measures : measured t.cells t.heads ≡ Ok k
   pub omitted : t.heads.omits ≤ omit_limit
   pub sound : (i : ℕ) → Sound t.cells t.pool k (first_of t.heads i) (end_of t.heads i)
 
@@ -156,19 +155,18 @@ module _ (s : Script) (h : script_right stretch_of s ≡ true) where
 
   -- ---- the stretch
 
-  measured_is : measured t.cells hs ≡ Largest (largest s.body)
-  measured_is = go (measured t.cells hs) (measured_script s g.rights g.bytes g.nested) is_largest_lem
+  measured_is : measured t.cells hs ≡ Ok (largest s.body)
+  measured_is = go (measured t.cells hs) (measured_script s g.rights g.bytes g.nested) is_ok_lem
     where
-      is_largest_lem : is_largest (measured t.cells hs) ≡ true
-      is_largest_lem =
+      is_ok_lem : is_ok (measured t.cells hs) ≡ true
+      is_ok_lem =
           measured_right t (omega (arith, ends_many, some))
           ∙ ap (λ (x : Script). right.nests x.body 0 && all_below stretch_of (processes x.body)) (script_of_lem s h)
           ∙ both (right.nests s.body 0) _ g.nested g.below
 
-      go : (r : Measured) → Answers s r → is_largest r ≡ true → r ≡ Largest (largest s.body)
-      go (Largest k) a e = ap Largest a.1
-      go (Over n) a e = true_is_false (sym e)
-      go Broken a e = true_is_false (sym e)
+      go : (r : std.Result ℕ StretchFault) → Answers s r → is_ok r ≡ true → r ≡ Ok (largest s.body)
+      go (Ok k) a e = ap (λ (n : ℕ). Ok n) a.1
+      go (Err f) a e = true_is_false (sym e)
 
   sound_at : (i : ℕ) → i < hs.processes → Sound t.cells t.pool (largest s.body) (begins_at hs i) (ends_at hs i)
   sound_at i l =
@@ -204,15 +202,15 @@ module _ (s : Script) (h : script_right stretch_of s ≡ true) where
 -- ---- from the text
 
 fitting_from : (r : Result) (text : List ℕ) (t : Table) (k : ℕ) → all is_byte text ≡ true → result_of stretch_of text ≡ r →
-    answered r ≡ record { answer = Accepted k; table = t } → Fitting t k
+    answered r ≡ record { answer = Ok k; table = t } → Fitting t k
 unfolding answered
 fitting_from (accepted s) text t k b e a =
     let same-table : laid_out s ≡ t = ap (λ (c : Compiled). c.table) a in
-    let same_answer : ◌≡◌ {A = Answer} (Accepted (largest s.body)) (Accepted k) = ap (λ (c : Compiled). c.answer) a in
+    let same_answer : ◌≡◌ {A = CompilerAnswer} (Ok (largest s.body)) (Ok k) = ap (λ (c : Compiled). c.answer) a in
     let same-stretch : largest s.body ≡ k = cc in
     rw (same-table, same-stretch) at (script_fitting s (accepted_right stretch_of s text (record { bytes = b; result = e })))
 fitting_from (refused f row column) text t k b e a =
-    let z : ◌≡◌ {A = Answer} (Refused f row column) (Accepted k) = ap (λ (c : Compiled). c.answer) a in
+    let z : ◌≡◌ {A = CompilerAnswer} (Err (refusal_of f row column)) (Ok k) = ap (λ (c : Compiled). c.answer) a in
     let y : ◌≡◌ {A = ℕ} 0 1 = cc in
     absurd (omega arith)
 

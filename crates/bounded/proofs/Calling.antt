@@ -9,6 +9,7 @@ use lib.Dec.{eqb, ltb}
 use lib.ListN.{length, get_or, set, length-set}
 use lib.Seq.{get_or-set_same, get_or-set_other}
 use borrow.Author.Tests.{ltb-true, eq-eqb, ne_eqb}
+use Rattle.std.specs.Prelude.{Ok, Err}
 use Rattle.reader.proofs.Tests.{by_cases}
 use Rattle.language.specs.declared.Heads.{Heads}
 use Rattle.language.specs.declared.Table.{Table}
@@ -20,18 +21,17 @@ use Rattle.process.specs.declared.Process.{Process}
 use Rattle.process.specs.declared.State.{State}
 use Rattle.process.specs.declared.RunRefusal.{RunRefusal}
 use Rattle.process.specs.declared.RunRefusal.TheVariants.{Busy, BadReading, NoSuchSignal, SmallBuffer}
-use Rattle.process.specs.declared.Received.TheVariants as received
 use Rattle.statement.specs.declared.outcome.Outcome.TheVariants.{Quiet, Refused}
+use Rattle.process.specs.declared.Copies.{Copies}
+use Rattle.process.specs.declared.Gulp.{Gulp}
 use Rattle.process.specs.declared.Event.{Event}
-use Rattle.process.specs.declared.ByteEvent.{ByteEvent}
-use Rattle.process.specs.declared.GulpEvent.{GulpEvent}
 use Rattle.runner.specs.declared.Drained.{Drained}
 use Rattle.process.specs.Waiting.{ticked, byte_taken, reading_taken, level_taken}
 use Rattle.events.specs.Recording.{times_recorded}
 use Rattle.process.specs.State.{run_refusal_number, busy, with_processes}
 use Rattle.events.specs.Events.{refused, took, tick_event, reading_right, reading_event, level_event}
 use Rattle.events.specs.Receiving.{byte_event}
-use Rattle.events.specs.Gulps.{Gulping, ticks_gulp, bytes_gulp, gulp_refused, gulp_took, ticks_event, bytes_event}
+use Rattle.events.specs.Gulps.{Gulping, ticks_gulp, bytes_gulp, gulp_took, ticks_event, bytes_event}
 use Rattle.statement.specs.Moving.{moved, cell_at}
 use Rattle.statement.specs.Saying.{outcome_of}
 use Rattle.runner.specs.Draining.{lowest, nobody, turn_of, writes, state_after, unaltered, drained}
@@ -78,31 +78,31 @@ module _ (t : Table) (k : ℕ) (a : Fitting t k) where
     busy_keeps = refused_keeps Busy (λ e. omega arith)
 
     -- an event is answered 21, or it goes on
-    unless_busy : (e : Event) → Keeps t k b f (answered_by b.counts e) → Keeps t k b f (answered_by b.counts (cond (busy b.state) (refused b.state Busy) e))
+    unless_busy : (e : Event (Unit {0})) → Keeps t k b f (answered_by b.counts e) → Keeps t k b f (answered_by b.counts (cond (busy b.state) (refused b.state Busy) e))
     unless_busy e c =
-        by_cases (λ (x : Event). Keeps t k b f (answered_by b.counts x)) (busy b.state) (refused b.state Busy) e (λ u. busy_keeps) (λ u. c)
+        by_cases (λ (x : Event (Unit {0})). Keeps t k b f (answered_by b.counts x)) (busy b.state) (refused b.state Busy) e (λ u. busy_keeps) (λ u. c)
 
     -- and then by a test of its own, or it is taken
     only_if : (u : Bool) (s : State) (r : RunRefusal) → All t k s (λ i. 0) → (run_refusal_number r ≡ 25 → ⊥) →
         Keeps t k b f (answered_by b.counts (cond u (took s) (refused b.state r)))
     only_if u s r c n =
-        by_cases (λ (x : Event). Keeps t k b f (answered_by b.counts x)) u (took s) (refused b.state r) (λ v. took_keeps b.counts s c) (λ v. refused_keeps r n)
+        by_cases (λ (x : Event (Unit {0})). Keeps t k b f (answered_by b.counts x)) u (took s) (refused b.state r) (λ v. took_keeps b.counts s c) (λ v. refused_keeps r n)
 
     byte_keeps : (x : ℕ) → Keeps t k b f (received_by b.counts (byte_event t.pool hs b.state x))
     unfolding byte_event tally reply_number run_refusal_number
     byte_keeps x =
         let s : State = b.state in
-        let took : ByteEvent =
-        record { state = with_processes s (map (byte_taken t.pool x) s.processes); answer = received.Took (record { count = times_recorded hs s.paused x }) }
+        let took : Event Copies =
+        record { state = with_processes s (map (byte_taken t.pool x) s.processes); answer = Ok (record { count = times_recorded hs s.paused x }) }
         in
         rw (ranges_right_lem t k a s f h)
-        (by_cases (λ (e : ByteEvent). Keeps t k b f (received_by b.counts e)) (busy s) (record { state = s; answer = received.Refused Busy }) took
+        (by_cases (λ (e : Event Copies). Keeps t k b f (received_by b.counts e)) (busy s) (record { state = s; answer = Err Busy }) took
         (λ u. record { all = h; found = λ e. omega arith })
         (λ u. record { all = byte_all t k a s f h x; found = λ e. omega arith }))
 
     -- ---- gulps
 
-    gulp_busy : (records : List ℕ) → Keeps t k b f (gulped_by b.counts (gulp_refused b.state Busy) records)
+    gulp_busy : (records : List ℕ) → Keeps t k b f (gulped_by b.counts (refused b.state Busy) records)
     unfolding tally reply_number run_refusal_number
     gulp_busy records = record { all = h; found = λ e. omega arith }
 
@@ -112,9 +112,9 @@ module _ (t : Table) (k : ℕ) (a : Fitting t k) where
 
     -- a gulp is answered 21, or it goes on
     gulp_keeps : (g : Gulping State) (records : List ℕ) → (busy b.state ≡ false → AllAfter t k g f) →
-        Keeps t k b f (gulped_by b.counts (cond (busy b.state) (gulp_refused b.state Busy) (gulp_took g)) records)
+        Keeps t k b f (gulped_by b.counts (cond (busy b.state) (refused b.state Busy) (gulp_took g)) records)
     gulp_keeps g records c =
-        by_cases (λ (e : GulpEvent). Keeps t k b f (gulped_by b.counts e records)) (busy b.state) (gulp_refused b.state Busy) (gulp_took g)
+        by_cases (λ (e : Event Gulp). Keeps t k b f (gulped_by b.counts e records)) (busy b.state) (refused b.state Busy) (gulp_took g)
         (λ u. gulp_busy records) (λ u. gulp_took_lem g records (c u))
 
     ticks_keeps : (n : ℕ) → Keeps t k b f (gulped_by b.counts (ticks_event b.state n) [])

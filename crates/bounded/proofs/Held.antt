@@ -12,7 +12,7 @@ use Rattle.language.specs.Limits.{loop_limit}
 use Rattle.process.specs.declared.Wait.{Wait}
 use Rattle.process.specs.declared.Wait.TheVariants.{Ready, Over, Ticks, Bytes, Data, ClockValue, Signal}
 use Rattle.process.specs.declared.Process.{Process}
-use Rattle.statement.specs.declared.loops.Moved.{Moved}
+use Rattle.statement.specs.Ways.{Moved}
 use Rattle.process.specs.Waiting.{ready_wait, wait_right}
 use Rattle.bounded.proofs.Ahead.{Open, opens_of, ahead}
 

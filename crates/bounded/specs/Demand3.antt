@@ -1,7 +1,7 @@
 -- Demand 3: "Take a script that was accepted, started afresh, with table and states handed on unaltered. Under every sequence of calls,
 -- refused ones among them, no process leaves its own statements, holds more than 8 open loops or is answered 25; and between a start,
 -- or an accepted event, and the next start or quiet moment no process does more than 4,097 statements." Assumes nothing: these are definitions.
-use Rattle.std.specs.Prelude.{◌≡◌, true, false, cond, List, [], ◌∷◌, ℕ, suc, ◌+◌, ◌≤◌, ◌<◌, length, get_or, drop, eqb, ltb}
+use Rattle.std.specs.Prelude.{◌≡◌, true, false, cond, List, [], ◌∷◌, ℕ, suc, ◌+◌, ◌≤◌, ◌<◌, length, get_or, drop, eqb, ltb, Ok, Err}
 use Rattle.figures.specs.Flat.{Mark, marks_nest}
 use Rattle.figures.specs.Cap.{over}
 use Rattle.language.specs.declared.Heads.{Heads}
@@ -12,11 +12,7 @@ use Rattle.process.specs.declared.Wait.TheVariants.{Over}
 use Rattle.process.specs.declared.Process.{Process}
 use Rattle.process.specs.declared.State.{State}
 use Rattle.process.specs.declared.RunRefusal.TheVariants.{BadTable}
-use Rattle.process.specs.declared.Taken.{Taken}
-use Rattle.process.specs.declared.Taken.TheVariants as taken
-use Rattle.process.specs.declared.Received.{Received}
-use Rattle.process.specs.declared.Received.TheVariants as received
-use Rattle.process.specs.declared.Gulped.{Gulped}
+use Rattle.process.specs.Answers.{Taken, Received, Gulped}
 use Rattle.statement.specs.declared.outcome.Outcome.TheVariants.{Quiet}
 use Rattle.process.specs.State.{busy}
 use Rattle.runner.specs.Draining.{lowest, nobody}
@@ -28,13 +24,13 @@ use Rattle.bounded.specs.Replies.{called, reply_number, RefusedBy, took_many, di
 
 -- an accepted event starts the count anew
 abbrev pub after_taken : Taken → ℕ → ℕ
-after_taken taken.Took n = 0
-after_taken (taken.Refused r) n = n
+after_taken (Ok tt) n = 0
+after_taken (Err r) n = n
 
 -- an accepted byte likewise
 abbrev pub after_received : Received → ℕ → ℕ
-after_received (received.Took c) n = 0
-after_received (received.Refused r) n = n
+after_received (Ok c) n = 0
+after_received (Err r) n = n
 
 -- a gulp likewise, if it took at least one
 abbrev pub after_gulp : Gulped → ℕ → ℕ

@@ -1,18 +1,12 @@
 -- Texts that compile, calls of the runner, and what a reply says: what the demands have in common. Assumes nothing: these are definitions.
-use Rattle.std.specs.Prelude.{◌≡◌, Bool, true, false, List, [], ℕ, ltb, length}
+use Rattle.std.specs.Prelude.{◌≡◌, Bool, true, false, List, [], ℕ, ltb, length, Ok, Err}
 use Rattle.reader.specs.Bytes.{all}
 use Rattle.language.specs.declared.Table.{Table}
-use Rattle.language.specs.declared.Answer.TheVariants.{Accepted}
 use Rattle.language.specs.Right.{is_byte}
 use Rattle.language.specs.Answer.{compiled}
 use Rattle.accepted.specs.Accepted.{table_right}
 use Rattle.process.specs.declared.RunRefusal.{RunRefusal}
-use Rattle.process.specs.declared.Taken.{Taken}
-use Rattle.process.specs.declared.Taken.TheVariants as taken
-use Rattle.process.specs.declared.Received.{Received}
-use Rattle.process.specs.declared.Received.TheVariants as received
-use Rattle.process.specs.declared.Gulped.{Gulped}
-use Rattle.process.specs.declared.Gulped.TheVariants as gulped
+use Rattle.process.specs.Answers.{Taken, Received, Gulped}
 use Rattle.statement.specs.declared.outcome.Outcome.{Outcome}
 use Rattle.statement.specs.declared.outcome.Outcome.TheVariants.{Quiet, Sent, Recorded, Rts, Fchange, Pause, Resume, Plain, Refused}
 use Rattle.process.specs.State.{run_refusal_number}
@@ -22,7 +16,7 @@ use Rattle.runner.specs.Calls.{Box, Call, start, tick, byte, reading, level, tic
 -- "a script that was accepted": a text of bytes compiles to the table t, and k is the stretch that is reported
 pub record Compiles (text : List ℕ) (t : Table) (k : ℕ) : Type 0 where
   pub bytes : all is_byte text ≡ true
-  pub result : compiled text ≡ record { answer = Accepted k; table = t }
+  pub result : compiled text ≡ record { answer = Ok k; table = t }
 
 -- a call of the runner, which starts a table exactly if some accepted script has it
 abbrev pub called : Table → Call → Box → Called
@@ -32,18 +26,18 @@ called = calls.called table_right
 
 -- "is answered 25": the number that an event is refused by, 0 where it is taken
 abbrev pub taken_number : Taken → ℕ
-taken_number taken.Took = 0
-taken_number (taken.Refused r) = run_refusal_number r
+taken_number (Ok tt) = 0
+taken_number (Err r) = run_refusal_number r
 
 -- the number that a received byte is answered by, 0 where it is taken
 abbrev pub received_number : Received → ℕ
-received_number (received.Took c) = 0
-received_number (received.Refused r) = run_refusal_number r
+received_number (Ok c) = 0
+received_number (Err r) = run_refusal_number r
 
 -- likewise of a gulp
 abbrev pub gulped_number : Gulped → ℕ
-gulped_number (gulped.Took g) = 0
-gulped_number (gulped.Refused r) = run_refusal_number r
+gulped_number (Ok g) = 0
+gulped_number (Err r) = run_refusal_number r
 
 -- likewise of a drain
 abbrev pub outcome_number : Outcome → ℕ
@@ -66,9 +60,9 @@ reply_number (outcome o written) = outcome_number o
 
 -- "is answered 25" of the refusal itself, whatever number it has: a reply that refuses by it
 abbrev pub RefusedBy : RunRefusal → Reply → Type 0
-RefusedBy r (event a) = a ≡ taken.Refused r
-RefusedBy r (calls.received a) = a ≡ received.Refused r
-RefusedBy r (gulp a records) = a ≡ gulped.Refused r
+RefusedBy r (event a) = a ≡ Err r
+RefusedBy r (calls.received a) = a ≡ Err r
+RefusedBy r (gulp a records) = a ≡ Err r
 RefusedBy r (outcome o written) = o ≡ Refused r
 
 -- a drain did a statement
@@ -87,18 +81,18 @@ did (Refused r) = false
 
 -- a reply says that its event was taken
 abbrev pub took_event : Taken → Bool
-took_event taken.Took = true
-took_event (taken.Refused r) = false
+took_event (Ok tt) = true
+took_event (Err r) = false
 
 -- likewise a received byte
 abbrev pub took_byte : Received → Bool
-took_byte (received.Took c) = true
-took_byte (received.Refused r) = false
+took_byte (Ok c) = true
+took_byte (Err r) = false
 
 -- how many single events a gulp took
 abbrev pub took_many : Gulped → ℕ
-took_many (gulped.Took g) = g.taken
-took_many (gulped.Refused r) = 0
+took_many (Ok g) = g.taken
+took_many (Err r) = 0
 
 -- likewise any call; a gulp that took at least one is an accepted event
 unfoldable pub was_taken : Reply → Bool
@@ -122,7 +116,7 @@ is_event (drain room) = false
 
 -- a byte that is taken and recorded once
 abbrev pub once : Reply
-once = calls.received (received.Took (record { count = 1 }))
+once = calls.received (Ok (record { count = 1 }))
 
 -- a drain that says quiet
 abbrev pub quiet : Reply

@@ -1,60 +1,64 @@
-// What a line asks of a reader or a writer: the text that it has in brackets, and the numbers after that.
-use super::lines::part;
-use super::widths::wide_word;
-use console::parts::place_of;
-use numbers::Number;
+// What a line asks of a reader or a writer: what is called begins it; then come the text in brackets, and numbers.
+use console::parts::{first, place_of, rest_from};
 use numbers::decimal::number;
-use reader::bytes::digit;
 use words::word_end;
 
 // The largest place there is: it stands for every number of the line that is larger than 4,294,967,295.
 const FAR: usize = usize::MAX;
 
-// The text in brackets from a place on.
-pub(crate) fn text_from(line: &[u8], from: usize) -> &[u8] {
-    let open = place_of(line, from, b'[');
-    if open < line.len() {
-        return part(line, open + 1, place_of(line, open, b']'));
-    }
-    line
-}
-
-// Where the first text in brackets ends; where the line begins, if it has none.
-pub(crate) fn text_end(line: &[u8]) -> usize {
-    let close = place_of(line, 0, b']');
-    if close < line.len() {
-        return close;
-    }
-    0
-}
-
-fn digit_place(line: &[u8], from: usize) -> usize {
-    let mut i = from;
-    while i < line.len() {
-        if digit(line[i]) < 10 {
-            return i;
-        }
-        i += 1;
-    }
-    i
-}
-
 #[derive(Clone, Copy)]
-pub struct Asked {
-    pub value: usize,
-    pub next: usize,
+pub struct Asked<'a> {
+    line: &'a [u8],
+    // What follows the first text in brackets, up to where numbers are read.
+    rest: &'a [u8],
 }
 
-// The next number from a place on, and where its word ends.
-pub(crate) fn number_from(line: &[u8], from: usize) -> Asked {
-    let at = digit_place(line, from);
-    let next = word_end(line, at);
-    let read = number(line, at, 10, u32::MAX);
-    match read {
-        Number::Value(n, _) => Asked {
-            value: wide_word(n),
-            next,
-        },
-        Number::Bad(_) => Asked { value: FAR, next },
+// The first text in brackets.
+fn bracketed(line: &[u8]) -> Option<&[u8]> {
+    let open = line.iter().position(|b| *b == b'[')?;
+    let text = rest_from(line, open + 1);
+    Some(first(text, place_of(text, 0, b']')))
+}
+
+impl<'a> Asked<'a> {
+    pub(crate) fn new(line: &'a [u8]) -> Asked<'a> {
+        let close = line.iter().position(|b| *b == b']').unwrap_or(0);
+        Asked {
+            line,
+            rest: rest_from(line, close),
+        }
+    }
+
+    pub(crate) fn calls(&self, name: &[u8]) -> bool {
+        self.line.starts_with(name)
+    }
+
+    // The text in brackets; the line, if it has none.
+    pub(crate) fn text(&self) -> &'a [u8] {
+        bracketed(self.line).unwrap_or(self.line)
+    }
+
+    // The text in brackets behind the first one.
+    pub(crate) fn second_text(&self) -> &'a [u8] {
+        bracketed(self.rest).unwrap_or(self.line)
+    }
+
+    // The next number; what follows its word is read after it.
+    pub(crate) fn place(&mut self) -> usize {
+        let Some(at) = self.rest.iter().position(u8::is_ascii_digit) else {
+            return FAR;
+        };
+        let word = rest_from(self.rest, at);
+        self.rest = rest_from(word, word_end(word, 0));
+        number(word, 0, 10, u32::MAX).map_or(FAR, |n| n.value as usize)
+    }
+
+    // In a smaller type one that does not fit becomes the largest that does.
+    pub(crate) fn word(&mut self) -> u32 {
+        u32::try_from(self.place()).unwrap_or(u32::MAX)
+    }
+
+    pub(crate) fn byte(&mut self) -> u8 {
+        u8::try_from(self.place()).unwrap_or(u8::MAX)
     }
 }

@@ -2,104 +2,84 @@
 #![tactic(auto)]
 
 mod asked;
-mod lines;
 mod output;
 mod readers;
 mod spelling;
 mod texts;
-mod widths;
 mod writers;
 
+use asked::Asked;
 use console::arguments::{Given, asked};
-use console::parts::{first, place_of};
 use console::reading::read_whole;
 use console::saying::tell;
-use lines::{part, starts};
 use output::say;
+use std::io;
 
 // Of a longer input the last cases would be missing in what is printed: it is not taken.
 const INPUT: usize = 16384;
 
+const USAGE: &[u8] = b"usage: cases < CASES
+Calls the readers and writers, or compiles a text, as each line of the input asks,
+and prints the line with what came back.
+";
+
 // A reader or a writer called: the line and what came back.
 fn call(rt: HostRuntime, line: &[u8]) {
     say(rt, line);
-    let text = asked::text_from(line, 0);
-    let a = asked::number_from(line, asked::text_end(line));
-    let b = asked::number_from(line, a.next);
-    let c = asked::number_from(line, b.next);
-    if starts(line, b"put ") {
-        writers::put(rt, line, text, a.value, b.value);
+    let asked = Asked::new(line);
+    if asked.calls(b"put ") {
+        writers::put(rt, asked);
     } else {
-        readers::read(rt, line, text, a.value, b.value, c.value);
+        readers::read(rt, asked);
     }
 }
 
-// A heading tells whether the lines below it are texts to compile; each other line is a case.
-fn take_line(rt: HostRuntime, line: &[u8], compiles: bool) -> bool {
-    if starts(line, b"Each line below ") {
-        return starts(line, b"Each line below is a text");
-    }
+fn take_case(rt: HostRuntime, line: &[u8], compiles: bool) {
     if compiles {
         texts::compiled(rt, line);
     } else {
         call(rt, line);
     }
     say(rt, b"\n");
-    compiles
 }
 
+// A heading tells whether the lines below it are texts to compile; each other line is a case. The last may lack its LF.
 fn all_cases(rt: HostRuntime, input: &[u8]) {
-    let mut from = 0usize;
-    let mut compiles = false;
-    while from < input.len() {
-        let end = place_of(input, from, b'\n');
-        compiles = take_line(rt, part(input, from, end), compiles);
-        if input.len() <= end {
-            return;
-        }
-        from = end + 1;
-    }
-}
-
-fn usage(rt: HostRuntime, to: &impl Print) {
-    tell(rt, to, b"usage: cases < CASES\n")
-        && tell(
-            rt,
-            to,
-            b"Calls the readers and writers, or compiles a text, as each line of the input asks,\n",
-        )
-        && tell(rt, to, b"and prints the line with what came back.\n");
-}
-
-fn take(rt: HostRuntime, input: &[u8; INPUT], n: usize) {
-    if n < INPUT {
-        all_cases(rt, first(input, n));
-    } else {
-        tell(
-            rt,
-            &rt.stderr(),
-            b"standard input: over 16383 bytes are not taken\n",
-        );
-    }
-}
-
-fn on_words(rt: HostRuntime, words: usize) {
-    if 1 < words {
-        usage(rt, &rt.stderr());
+    if input.is_empty() {
         return;
     }
-    let mut input = [0u8; INPUT];
-    let whole = read_whole(rt, &mut rt.stdin(), b"standard input", &mut input);
-    if whole.is_read {
-        take(rt, &input, whole.n);
+    let lines = input.strip_suffix(b"\n").unwrap_or(input);
+    let mut compiles = false;
+    for line in lines.split(|b| *b == b'\n') {
+        if line.starts_with(b"Each line below ") {
+            compiles = line.starts_with(b"Each line below is a text");
+        } else {
+            take_case(rt, line, compiles);
+        }
     }
+}
+
+fn on_words(rt: HostRuntime, words: usize) -> io::Result<()> {
+    if 1 < words {
+        return tell(rt, &rt.stderr(), USAGE);
+    }
+    let input = read_whole(rt, &mut rt.stdin(), b"standard input", INPUT)?;
+    if input.len() < INPUT {
+        all_cases(rt, &input);
+        return Ok(());
+    }
+    tell(
+        rt,
+        &rt.stderr(),
+        b"standard input: over 16383 bytes are not taken\n",
+    )
 }
 
 fn main(rt: HostRuntime) {
-    let given = asked(rt, 1);
-    match given {
-        Given::Help => usage(rt, &rt.stdout()),
-        Given::Mistaken => usage(rt, &rt.stderr()),
+    // What failed has been told.
+    let _ = match asked(rt, 1) {
+        Given::Help => tell(rt, &rt.stdout(), USAGE),
+        Given::Mistaken => tell(rt, &rt.stderr(), USAGE),
         Given::Words(words) => on_words(rt, words),
-    }
+    };
 }

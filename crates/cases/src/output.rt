@@ -1,16 +1,23 @@
-// What is printed.
+// What is printed. A write that fails has been told, and the cases go on.
 use console::saying;
+use std::fmt::Display;
+use std::io;
 
 pub(crate) fn say(rt: HostRuntime, text: &[u8]) {
-    saying::say(rt, text);
+    let _ = saying::say(rt, text);
 }
 
-// A name and a number.
-pub(crate) fn tell(rt: HostRuntime, name: &[u8], n: usize) {
-    saying::say(rt, name) && saying::say_number(rt, n as u64);
+pub(crate) fn print(rt: HostRuntime, what: impl Display + Drop) {
+    let _ = saying::print(rt, what);
+}
+
+fn in_braces(rt: HostRuntime, bytes: &[u8]) -> io::Result<()> {
+    saying::say(rt, b" {")?;
+    saying::say(rt, bytes)?;
+    saying::say(rt, b"}")
 }
 
 // What a slice then holds.
-pub(crate) fn shows(rt: HostRuntime, bytes: &[u8]) {
-    saying::say(rt, b" {") && saying::say(rt, bytes) && saying::say(rt, b"}");
+pub(crate) fn show(rt: HostRuntime, bytes: &[u8]) {
+    let _ = in_braces(rt, bytes);
 }

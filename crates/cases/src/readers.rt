@@ -1,15 +1,13 @@
 // The readers: what a line asks of them, and what came back.
-use super::asked::{text_end, text_from};
-use super::lines::starts;
-use super::output::{say, shows, tell};
-use super::widths::{narrow, small, wide_word};
-use hex_data::{HexCount, HexRead};
-use numbers::{Number, decimal};
+use super::asked::Asked;
+use super::output::{print, say};
+use hex_data::{HexFault, hex_byte, hex_count, hex_into};
+use numbers::decimal::{number, pair};
 use reader::bytes;
-use reader::widths::wide_byte;
 
 fn byte(rt: HostRuntime, b: u8) {
-    tell(rt, b": digit ", wide_byte(bytes::digit(b)));
+    let digit = bytes::digit(b).unwrap_or(16);
+    print(rt, format_args!(": digit {digit}"));
     if bytes::blank(b) {
         say(rt, b", blank");
     }
@@ -17,79 +15,81 @@ fn byte(rt: HostRuntime, b: u8) {
 
 fn word(rt: HostRuntime, text: &[u8], at: usize) {
     let from = words::after_blanks(text, at);
-    tell(rt, b": from ", from);
-    tell(rt, b" to ", words::word_end(text, from));
+    let to = words::word_end(text, from);
+    print(rt, format_args!(": from {from}"));
+    print(rt, format_args!(" to {to}"));
 }
 
 // The name is the second text of the line.
-fn named(rt: HostRuntime, line: &[u8], text: &[u8], from: usize, to: usize) {
-    let name = text_from(line, text_end(line));
-    if words::is_named(text, from, to, name) {
-        say(rt, b": yes");
-    } else {
-        say(rt, b": no");
-    }
+fn named(rt: HostRuntime, mut asked: Asked<'_>) {
+    let name = asked.second_text();
+    let from = asked.place();
+    let to = asked.place();
+    let is_named = words::is_named(asked.text(), from, to, name);
+    say(rt, if is_named { b": yes" } else { b": no" });
 }
 
-fn count(rt: HostRuntime, text: &[u8], at: usize) {
-    let counted = hex_data::hex_count(text, at);
-    match counted {
-        HexCount::Of(n) => tell(rt, b": count ", n),
-        HexCount::Not(i) => tell(rt, b": bad at ", i),
-    }
+fn bad(rt: HostRuntime, at: usize) {
+    print(rt, format_args!(": bad at {at}"));
 }
 
-fn answer_data(rt: HostRuntime, read: HexRead) {
-    match read {
-        HexRead::Bytes(n) => tell(rt, b": bytes ", n),
-        HexRead::Wrong(i) => tell(rt, b": bad at ", i),
-        HexRead::Full => say(rt, b": full"),
-    }
-}
-
-// Reads into four bytes from `to` on, and shows the four in hex.
+// Counts, and reads into four bytes from a place on, which are shown in hex.
 fn data(rt: HostRuntime, text: &[u8], at: usize, to: usize) {
+    match hex_count(text, at) {
+        Ok(n) => print(rt, format_args!(": count {n}")),
+        Err(at) => bad(rt, at),
+    }
     let mut out = [0xEEu8; 4];
-    let mut shown = [b'.'; 8];
-    let read = hex_data::hex_into(text, at, &mut out, to);
-    writer::put_hex(&mut shown, 0, &out);
-    answer_data(rt, read);
-    shows(rt, &shown);
+    match hex_into(text, at, &mut out, to) {
+        Ok(n) => print(rt, format_args!(": bytes {n}")),
+        Err(HexFault::Wrong(at)) => bad(rt, at),
+        Err(HexFault::Full) => say(rt, b": full"),
+    }
+    let [a, b, c, d] = out;
+    print(rt, format_args!(" {{{a:02X}{b:02X}{c:02X}{d:02X}}}"));
 }
 
-fn number(line: &[u8], text: &[u8], at: usize, b: usize, c: usize) -> Number {
-    if starts(line, b"number") {
-        return decimal::number(text, at, b, narrow(c));
-    }
-    if starts(line, b"pair") {
-        return decimal::pair(text, at, small(b), small(c));
-    }
-    hex_data::hex_byte(text, at)
-}
-
-fn answer(rt: HostRuntime, n: Number) {
-    match n {
-        Number::Value(v, next) => {
-            tell(rt, b": ", wide_word(v));
-            tell(rt, b", next ", next);
-        }
-        Number::Bad(at) => tell(rt, b": bad at ", at),
-    }
-}
-
-pub(crate) fn read(rt: HostRuntime, line: &[u8], text: &[u8], a: usize, b: usize, c: usize) {
-    if starts(line, b"byte") {
-        byte(rt, small(a));
-    } else if starts(line, b"word") {
-        word(rt, text, a);
-    } else if starts(line, b"trimmed") {
-        tell(rt, b": ", words::trimmed_end(text));
-    } else if starts(line, b"named") {
-        named(rt, line, text, a, b);
-    } else if starts(line, b"data") {
-        count(rt, text, a);
-        data(rt, text, a, c);
+fn value(rt: HostRuntime, mut asked: Asked<'_>) {
+    let text = asked.text();
+    let at = asked.place();
+    let read = if asked.calls(b"number") {
+        let digits = asked.place();
+        number(text, at, digits, asked.word())
+    } else if asked.calls(b"pair") {
+        let low = asked.byte();
+        pair(text, at, low, asked.byte())
     } else {
-        answer(rt, number(line, text, a, b, c));
+        hex_byte(text, at)
+    };
+    match read {
+        Ok(n) => {
+            let value = n.value;
+            let next = n.next;
+            print(rt, format_args!(": {value}"));
+            print(rt, format_args!(", next {next}"));
+        }
+        Err(at) => bad(rt, at),
+    }
+}
+
+// A name is whatever the line begins with, so it is tested and not matched: `bytes` asks for `byte`.
+pub(crate) fn read(rt: HostRuntime, mut asked: Asked<'_>) {
+    let text = asked.text();
+    if asked.calls(b"byte") {
+        byte(rt, asked.byte());
+    } else if asked.calls(b"word") {
+        word(rt, text, asked.place());
+    } else if asked.calls(b"trimmed") {
+        let end = words::trimmed_end(text);
+        print(rt, format_args!(": {end}"));
+    } else if asked.calls(b"named") {
+        named(rt, asked);
+    } else if asked.calls(b"data") {
+        let at = asked.place();
+        // The number between says how many bytes there are to read into, which are always four.
+        asked.place();
+        data(rt, text, at, asked.place());
+    } else {
+        value(rt, asked);
     }
 }

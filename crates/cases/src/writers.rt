@@ -1,61 +1,38 @@
 // The writers: what a line asks of them, and what came back.
-use super::lines::starts;
-use super::output::{say, shows, tell};
-use super::widths::{narrow, small};
-use writer::Put;
+use super::asked::Asked;
+use super::output::{print, say, show};
+use writer::{put_bytes, put_decimal, put_hex, put_hex_digits, put_two_digits};
 
-fn answer(rt: HostRuntime, p: Put) {
-    match p {
-        Put::Next(next) => tell(rt, b": next ", next),
-        Put::NoRoom => say(rt, b": no room"),
+// Calls a writer on some bytes, and shows them afterwards.
+fn called<F: FnOnce(&mut [u8]) -> Option<usize>>(rt: HostRuntime, out: &mut [u8], write: F)
+    requires { F.IsAlwaysCallable write }
+{
+    match write(out) {
+        Some(next) => print(rt, format_args!(": next {next}")),
+        None => say(rt, b": no room"),
     }
+    show(rt, out);
 }
 
-fn decimal(rt: HostRuntime, n: u32, at: usize) {
-    let mut out = [b'.'; 12];
-    let p = writer::put_decimal(&mut out, at, n);
-    answer(rt, p);
-    shows(rt, &out);
-}
-
-fn two_digits(rt: HostRuntime, n: u8, at: usize) {
-    let mut out = [b'.'; 4];
-    let p = writer::put_two_digits(&mut out, at, n);
-    answer(rt, p);
-    shows(rt, &out);
-}
-
-fn hex_digits(rt: HostRuntime, b: u8, at: usize) {
-    let mut out = [b'.'; 4];
-    let p = writer::put_hex_digits(&mut out, at, b);
-    answer(rt, p);
-    shows(rt, &out);
-}
-
-fn hex(rt: HostRuntime, text: &[u8], at: usize) {
-    let mut out = [b'.'; 8];
-    let p = writer::put_hex(&mut out, at, text);
-    answer(rt, p);
-    shows(rt, &out);
-}
-
-fn bytes(rt: HostRuntime, text: &[u8], at: usize) {
-    let mut out = [b'.'; 8];
-    let p = writer::put_bytes(&mut out, at, text);
-    answer(rt, p);
-    shows(rt, &out);
-}
-
-pub(crate) fn put(rt: HostRuntime, line: &[u8], text: &[u8], a: usize, b: usize) {
-    if starts(line, b"put decimal") {
-        decimal(rt, narrow(a), b);
-    } else if starts(line, b"put two digits") {
-        two_digits(rt, small(a), b);
-    } else if starts(line, b"put hex digits") {
-        hex_digits(rt, small(a), b);
-    } else if starts(line, b"put hex") {
-        hex(rt, text, a);
+pub(crate) fn put(rt: HostRuntime, mut asked: Asked<'_>) {
+    let text = asked.text();
+    if asked.calls(b"put decimal") {
+        let n = asked.word();
+        let at = asked.place();
+        called(rt, &mut [b'.'; 12], |out| put_decimal(out, at, n));
+    } else if asked.calls(b"put two digits") {
+        let n = asked.byte();
+        let at = asked.place();
+        called(rt, &mut [b'.'; 4], |out| put_two_digits(out, at, n));
+    } else if asked.calls(b"put hex digits") {
+        let n = asked.byte();
+        let at = asked.place();
+        called(rt, &mut [b'.'; 4], |out| put_hex_digits(out, at, n));
+    } else if asked.calls(b"put hex") {
+        let at = asked.place();
+        called(rt, &mut [b'.'; 8], |out| put_hex(out, at, text));
     } else {
-        bytes(rt, text, a);
+        let at = asked.place();
+        called(rt, &mut [b'.'; 8], |out| put_bytes(out, at, text));
     }
 }

@@ -1,12 +1,13 @@
 // The cell of a word of the table. Nothing else takes a word apart.
 ghost use Rattle.std.specs.Prelude.{◌≡◌, ◌/◌, ◌%◌, ◌<◌, ltb, leb, eqb, get_or};
+ghost use Rattle.std.specs.Bool.{then_some};
+ghost use Rattle.std.specs.Option.{unwrap_or};
 ghost use Rattle.language.specs.Clock.{range};
 ghost use Rattle.language.specs.Right.{time_right};
-ghost use Rattle.language.specs.Cell.{level, span_right, unit_right, fixed_right, or_unknown, span_of, clock_of_number, decoded};
-ghost use Rattle.language.specs.Limits.{send_room, wait_room, log_room};
+ghost use Rattle.language.specs.Cell.{level, span_right, unit_right, fixed_right, span_of, clock_of_number, cell_of, decoded};
 
+use crate::KIND;
 use language::{Cell, Cells, Clock, LOG_ROOM, Level, POOL_PLACES, SEND_ROOM, Span, WAIT_ROOM};
-use reader::widths::both;
 
 // The limits that a word is held against, as wide as a word.
 const POOL: u32 = POOL_PLACES as u32;
@@ -17,134 +18,68 @@ const WAIT: u32 = WAIT_ROOM as u32;
 
 const LOG: u32 = LOG_ROOM as u32;
 
-// A word holds its kind times this, and its argument below.
-const KIND: u32 = 67108864;
+// ---- the arguments that a line can have
 
-// A cell with no argument.
-fn bare(c: Cell, argument: u32) -> Cell
-    ensures { result ≡ or_unknown (eqb argument 0) c }
-{
-    if argument == 0 { c } else { Cell::Unknown }
-}
-
-// Whether data lie within the pool, and are as many bytes as a line can have.
-fn span_right(argument: u32, low: u32, high: u32) -> bool
-    ensures { result ≡ span_right low high (span_of argument) }
+// Data within the pool, of as many bytes as a line can have.
+#[tactic(auto, unfolding(language::specs::Cell::span_right))]
+fn data(argument: u32, low: u32, high: u32) -> Option<Span>
+    ensures { result ≡ then_some (span_right low high (span_of argument)) (span_of argument) }
 {
     let from = argument / 128;
     let count = argument % 128;
-    if count < low {
-        return false;
+    if low <= count && count <= high && from + count <= POOL {
+        let from = from as u16;
+        let count = count as u16;
+        return Some(Span { from, count });
     }
-    if high < count {
-        return false;
-    }
-    from + count <= POOL
+    None
 }
 
-fn span_of(argument: u32) -> Span
-    requires { argument < 8388608 }
-    ensures { result ≡ span_of argument }
-{
-    Span {
-        from: (argument / 128) as u16,
-        count: (argument % 128) as u16,
-    }
-}
-
-fn send(argument: u32) -> Cell
-    ensures { result ≡ or_unknown (span_right 0 send_room (span_of argument)) (Cell.Send (span_of argument)) }
-{
-    if span_right(argument, 0, SEND) {
-        Cell::Send(span_of(argument))
-    } else {
-        Cell::Unknown
-    }
-}
-
-fn wait_data(argument: u32) -> Cell
-    ensures { result ≡ or_unknown (span_right 1 wait_room (span_of argument)) (Cell.WaitData (span_of argument)) }
-{
-    if span_right(argument, 1, WAIT) {
-        Cell::WaitData(span_of(argument))
-    } else {
-        Cell::Unknown
-    }
-}
-
-fn log(argument: u32) -> Cell
-    ensures { result ≡ or_unknown (span_right 0 log_room (span_of argument)) (Cell.Log (span_of argument)) }
-{
-    if span_right(argument, 0, LOG) {
-        Cell::Log(span_of(argument))
-    } else {
-        Cell::Unknown
-    }
-}
-
-fn loop_count(argument: u32) -> Cell
-    ensures { result ≡ or_unknown (leb argument 60000) (Cell.Loop argument) }
+// A count of passes or of bytes.
+fn count(argument: u32) -> Option<u16>
+    ensures { result ≡ then_some (leb argument 60000) argument }
 {
     if argument <= 60000 {
-        Cell::Loop(argument as u16)
+        Some(argument as u16)
     } else {
-        Cell::Unknown
-    }
-}
-
-fn wait_byte(argument: u32) -> Cell
-    ensures { result ≡ or_unknown (leb argument 60000) (Cell.WaitByte argument) }
-{
-    if argument <= 60000 {
-        Cell::WaitByte(argument as u16)
-    } else {
-        Cell::Unknown
+        None
     }
 }
 
 // Up to 60,000 ms, or whole seconds up to 60,000.
-fn wait_time(argument: u32) -> Cell
-    ensures { result ≡ or_unknown (time_right argument) (Cell.WaitTime argument) }
+#[tactic(auto, unfolding(language::specs::Right::time_right))]
+fn is_time(argument: u32) -> bool
+    ensures { result ≡ time_right argument }
 {
-    if argument <= 60000 {
-        return Cell::WaitTime(argument);
-    }
-    if argument % 1000 != 0 {
-        return Cell::Unknown;
-    }
-    if argument <= 60000000 {
-        Cell::WaitTime(argument)
-    } else {
-        Cell::Unknown
-    }
+    argument <= 60000 || argument % 1000 == 0 && argument <= 60000000
 }
 
 // A unit that is fixed is in its range, any other is 0.
+#[tactic(auto, unfolding(language::specs::Cell::unit_right, language::specs::Clock::within))]
 fn unit_right(fixed: bool, low: u8, high: u8, value: u8) -> bool
     ensures { result ≡ unit_right fixed (range low high) value }
 {
     if fixed {
-        if value < low {
-            return false;
-        }
-        return value <= high;
+        low <= value && value <= high
+    } else {
+        value == 0
     }
-    value == 0
 }
 
+#[tactic(auto, unfolding(language::specs::Cell::fixed_right))]
 fn fixed_right(c: Clock) -> bool
     ensures { result ≡ fixed_right c }
 {
-    let day = unit_right(4 <= c.fixed, 1, 31, c.day);
-    let hour = unit_right(3 <= c.fixed, 0, 23, c.hour);
-    let minute = unit_right(2 <= c.fixed, 0, 59, c.minute);
-    let second = unit_right(1 <= c.fixed, 0, 59, c.second);
-    both(c.fixed <= 4, both(day, both(hour, both(minute, second))))
+    c.fixed <= 4
+        && unit_right(4 <= c.fixed, 1, 31, c.day)
+        && unit_right(3 <= c.fixed, 0, 23, c.hour)
+        && unit_right(2 <= c.fixed, 0, 59, c.minute)
+        && unit_right(1 <= c.fixed, 0, 59, c.second)
 }
 
-fn wait_clock(argument: u32) -> Cell
+fn clock(argument: u32) -> Option<Clock>
     requires { argument < 67108864 }
-    ensures { result ≡ or_unknown (fixed_right (clock_of_number argument)) (Cell.WaitClock (clock_of_number argument)) }
+    ensures { result ≡ then_some (fixed_right (clock_of_number argument)) (clock_of_number argument) }
 {
     let c = Clock {
         fixed: (argument / 4194304) as u8,
@@ -153,69 +88,61 @@ fn wait_clock(argument: u32) -> Cell
         minute: (argument / 64 % 64) as u8,
         second: (argument % 64) as u8,
     };
-    if fixed_right(c) {
-        Cell::WaitClock(c)
-    } else {
-        Cell::Unknown
-    }
+    fixed_right(c).then_some(c)
 }
 
-fn wait_signal(argument: u32) -> Cell
-    ensures { result ≡ or_unknown (ltb argument 10) (Cell.WaitSignal (level (argument / 2) (eqb (argument % 2) 1))) }
+fn signal(argument: u32) -> Option<Level>
+    ensures { result ≡ then_some (ltb argument 10) (level (argument / 2) (eqb (argument % 2) 1)) }
 {
     if argument < 10 {
-        return Cell::WaitSignal(Level {
-            signal: (argument / 2) as u8,
-            on: argument % 2 == 1,
-        });
+        let signal = (argument / 2) as u8;
+        let on = argument % 2 == 1;
+        return Some(Level { signal, on });
     }
-    Cell::Unknown
+    None
 }
 
-fn rts(argument: u32) -> Cell
-    ensures { result ≡ or_unknown (ltb argument 2) (Cell.Rts (eqb argument 1)) }
+// ---- the cells
+
+// The cell of a kind and an argument, where a line has such a cell.
+#[tactic(auto, unfolding(language::specs::Cell::cell_of))]
+fn cell_of(kind: u32, argument: u32) -> Option<Cell>
+    requires { argument < 67108864 }
+    ensures { unwrap_or result Cell.Unknown ≡ cell_of kind argument }
 {
-    if argument < 2 {
-        Cell::Rts(argument == 1)
-    } else {
-        Cell::Unknown
+    let bare = argument == 0;
+    match kind {
+        0 => bare.then_some(Cell::Nothing),
+        1 => data(argument, 0, SEND).map(Cell::Send),
+        2 => count(argument).map(Cell::Loop),
+        3 => bare.then_some(Cell::End),
+        4 => is_time(argument).then_some(Cell::WaitTime(argument)),
+        5 => data(argument, 1, WAIT).map(Cell::WaitData),
+        6 => count(argument).map(Cell::WaitByte),
+        7 => clock(argument).map(Cell::WaitClock),
+        8 => signal(argument).map(Cell::WaitSignal),
+        9 => (argument < 2).then_some(Cell::Rts(argument == 1)),
+        10 => data(argument, 0, LOG).map(Cell::Log),
+        11 => bare.then_some(Cell::Fchange),
+        12 => bare.then_some(Cell::Pause),
+        13 => bare.then_some(Cell::Resume),
+        14 => bare.then_some(Cell::Nop),
+        _ => None,
     }
 }
 
 // The cell of a word; Unknown where no line has such a cell.
+#[tactic(auto, unfolding(language::specs::Cell::decoded))]
 pub fn decode(w: u32) -> Cell
     ensures { result ≡ decoded w }
 {
-    let kind = w / KIND;
-    let argument = w % KIND;
-    match kind {
-        0 => bare(Cell::Nothing, argument),
-        1 => send(argument),
-        2 => loop_count(argument),
-        3 => bare(Cell::End, argument),
-        4 => wait_time(argument),
-        5 => wait_data(argument),
-        6 => wait_byte(argument),
-        7 => wait_clock(argument),
-        8 => wait_signal(argument),
-        9 => rts(argument),
-        10 => log(argument),
-        11 => bare(Cell::Fchange, argument),
-        12 => bare(Cell::Pause, argument),
-        13 => bare(Cell::Resume, argument),
-        14 => bare(Cell::Nop, argument),
-        _ => Cell::Unknown,
-    }
+    cell_of(w / KIND, w % KIND).unwrap_or(Cell::Unknown)
 }
 
 // The cell at a place; after the last there is nothing.
+#[tactic(auto, using(crate::proofs::Coding::nothing_behind))]
 pub fn cell_at(cells: &Cells, at: usize) -> Cell
     ensures { result ≡ decoded (get_or cells.now at 0) }
 {
-    let words: &[u32] = cells;
-    if at < words.len() {
-        decode(words[at])
-    } else {
-        Cell::Nothing
-    }
+    cells.get(at).map_or(Cell::Nothing, |w| decode(*w))
 }

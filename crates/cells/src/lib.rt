@@ -3,3 +3,6 @@
 
 pub mod decoder;
 pub mod encoder;
+
+// A word holds its kind times this, and its argument below.
+const KIND: u32 = 67108864;

@@ -1,10 +1,11 @@
 -- A PROCESS LINE: a law for each way on. Assumes nothing.
-use Prim.Native.Nat.{ℕ, ◌+◌, ◌-◌, ◌≤◌, ◌<◌}
+use Rattle.std.specs.Prelude.{Ok, Option, Some, None}
+use Prim.Native.Nat.{ℕ, ◌+◌, ◌≤◌, ◌<◌}
 use mathlib.Core.Path.{◌≡◌, refl, sym, ap, ◌∙◌}
 use mathlib.Core.Bool.{true, false}
 use mathlib.Core.List.{List, [], ◌∷◌, ◌++◌}
 use native.Mathlib.Omega.{arith}
-use lib.ListN.{length, get_or, set, length-append}
+use lib.ListN.{length, set, length-append}
 use borrow.Author.Tests.{lt-ltb, le-ltb}
 use Rattle.language.specs.declared.Heads.{Heads}
 use Rattle.language.specs.declared.TextFault.TheVariants.{LoopLeftOpen, TooManyProcesses}
@@ -12,104 +13,99 @@ use Rattle.language.specs.Limits.{process_limit}
 use Rattle.language.specs.Script.{Item, next}
 use Rattle.language.specs.Draft.{Draft, with_next, with_first, beginning, take_process}
 use Rattle.language.specs.Table.{words_from, ends_from, heads_of}
-use Rattle.compiler.specs.declared.drafting.Step.TheVariants.{Stop}
-use Rattle.compiler.specs.Inside.Drafting.{Work, Stepped, stacked, IsDraft, Took, Takes}
+use Rattle.compiler.specs.declared.drafting.Drafting.{Drafting}
+use Rattle.compiler.specs.Inside.Drafting.{Step, stopped, stacked, first_of, IsDraft, Took, Takes}
 use Rattle.compiler.proofs.Padding.{set_behind}
 use Rattle.compiler.proofs.Bodies.{pool_next, words_next, ends_next}
-use Rattle.compiler.proofs.Standing.{Goes, goes, heads_with, heads_with_lem}
-use Rattle.compiler.proofs.Nesting.{innermost}
+use Rattle.compiler.proofs.Standing.{heads_with, heads_with_lem}
 
-abbrev next_in : Work → Work
+abbrev next_in : Drafting → Drafting
 next_in w =
-    record {
-      counted = w.counted;
-      cells = w.cells;
-      opened = w.opened;
-      loops = w.loops;
-      begun = w.begun;
-      heads = heads_with w.heads (w.heads.processes + 1) (set w.heads.ends w.heads.processes w.cells) w.heads.used;
+    record w {
+      table = record w.table { heads = heads_with w.table.heads (w.table.heads.processes + 1) (set w.table.heads.ends w.table.heads.processes w.written) w.table.heads.used };
     }
 
-abbrev first_in : Work → Work
-first_in w = record { counted = w.counted; cells = w.cells; opened = w.opened; loops = w.loops; begun = true; heads = w.heads }
+abbrev first_in : Drafting → Drafting
+first_in w = record w { begun = true }
 
 -- after a statement or another such line
-abbrev pub Nexts : ℕ → Work → Stepped → Type 0
-Nexts row w r =
-    (st : Draft) (cells pool : List ℕ) → IsDraft st w cells pool → st.loops ≡ [] → st.begun ≡ true → Took (beginning row st) r cells pool
+abbrev pub Nexts : ℕ → Drafting → Step → Drafting → Type 0
+Nexts row w r w' = (st : Draft) → IsDraft st w → st.loops ≡ [] → st.begun ≡ true → Took (beginning row st) r w'
 
-module _ (row : ℕ) {w : Work} (r : Stepped) where
-  pub next_on : w.heads.processes < process_limit → Goes r (next_in w) → Nexts row w r
+module _ (row : ℕ) (w : Drafting) where
+  pub next_on : w.table.heads.processes < process_limit → Nexts row w (Ok tt) (next_in w)
   unfolding beginning with_next heads_of stacked
-  next_on k g st cells pool h l b =
+  next_on k st h l b =
       let is : List Item = st.body in
-      let processes : w.heads.processes ≡ length (ends_from 0 is) = ap (λ (x : Heads). x.processes) h.heads in
+      let processes : w.table.heads.processes ≡ length (ends_from 0 is) = ap (λ (x : Heads). x.processes) h.heads in
       let less : st.count < process_limit = omega (arith, h.count) in
       let more : length (ends_from 0 (is ++ next ∷ [])) ≡ length (ends_from 0 is) + 1 = rw (ends_next is) (simp length-append (omega arith)) in
-      rw (b, lt-ltb st.count process_limit less)
-      (goes g (record {
-        counted = h.counted;
-        written = rw (words_next 0 is) h.written;
-        opened = h.opened ∙ ap length l;
-        long = h.long;
-        loops = refl;
-        begun = h.begun ∙ b;
-        heads =
-            heads_with_lem w.heads st.settings is (is ++ next ∷ []) h.heads (omega (arith, more, processes))
-            (rw (h.heads, h.written, ends_next is) (set_behind process_limit (ends_from 0 is) (length (words_from 0 is)) (omega arith)))
-            (rw (h.heads, pool_next is));
-        used = rw (pool_next is) h.used;
-        count = omega (arith, more, h.count);
-        words = rw (words_next 0 is) h.words;
-        bytes = rw (pool_next is) h.bytes;
-      }))
+      rw (b, lt-ltb st.count process_limit less) (
+        refl,
+        record {
+          counted = h.counted;
+          written = rw (words_next 0 is) h.written;
+          opened = h.opened ∙ ap length l;
+          long = h.long;
+          loops = refl;
+          begun = h.begun ∙ b;
+          heads =
+              heads_with_lem w.table.heads st.settings is (is ++ next ∷ []) h.heads (omega (arith, more, processes))
+              (rw (h.heads, h.written, ends_next is) (set_behind process_limit (ends_from 0 is) (length (words_from 0 is)) (omega arith)))
+              (rw (h.heads, pool_next is));
+          used = rw (pool_next is) h.used;
+          count = omega (arith, more, h.count);
+          words = rw (words_next 0 is) h.words;
+          bytes = rw (pool_next is) h.bytes;
+        },
+      )
 
-  pub next_stop : process_limit ≤ w.heads.processes → r.step ≡ Stop TooManyProcesses row → Nexts row w r
+  pub next_stop : process_limit ≤ w.table.heads.processes → Nexts row w (stopped TooManyProcesses row) w
   unfolding beginning heads_of
-  next_stop k e st cells pool h l b =
-      let processes : w.heads.processes ≡ length (ends_from 0 st.body) = ap (λ (x : Heads). x.processes) h.heads in
+  next_stop k st h l b =
+      let processes : w.table.heads.processes ≡ length (ends_from 0 st.body) = ap (λ (x : Heads). x.processes) h.heads in
       let more : process_limit ≤ st.count = omega (arith, h.count) in
-      rw (b, le-ltb st.count process_limit more) e
+      rw (b, le-ltb st.count process_limit more)
 
   -- a loop is open: the line of the innermost
-  pub open_stop : 0 < w.opened → r.step ≡ Stop LoopLeftOpen (get_or w.loops (w.opened - 1) 0) → Takes (λ st. take_process row st st.loops) w r
+  pub open_stop : (at : ℕ) (w' : Drafting) → ((st : Draft) → IsDraft st w → Some at ≡ first_of st.loops) → Takes (λ st. take_process row st st.loops) w (stopped LoopLeftOpen at) w'
   unfolding take_process
-  open_stop k e st cells pool h = go st.loops refl
+  open_stop at w' k st h = go st.loops (k st h)
     where
-      go : (ls : List ℕ) → st.loops ≡ ls → Took (take_process row st ls) r cells pool
-      go [] l = absurd (omega (arith, h.opened, ap length l))
-      go (x ∷ ls) l =
-          let n : w.opened - 1 ≡ length ls = omega (arith, h.opened, ap length l) in
-          e ∙ rw (n, innermost x ls w.loops (rw l at h.loops))
+      go : (ls : List ℕ) → Some at ≡ first_of ls → Took (take_process row st ls) (stopped LoopLeftOpen at) w'
+      go [] e = absurd (cc)
+      go (x ∷ ls) e = let same : at ≡ x = cc in ap (stopped LoopLeftOpen) same
 
   -- none is open
-  closed : (st : Draft) {cells pool : List ℕ} → w.opened ≤ 0 → IsDraft st w cells pool → (st.loops ≡ [] → Took (beginning row st) r cells pool)
-      → Took (take_process row st st.loops) r cells pool
+  closed : (st : Draft) (r : Step) (w' : Drafting) → None ≡ first_of st.loops → (st.loops ≡ [] → Took (beginning row st) r w') → Took (take_process row st st.loops) r w'
   unfolding take_process
-  closed st {cells} {pool} k h f = go st.loops refl
+  closed st r w' k f = go st.loops refl k
     where
-      go : (ls : List ℕ) → st.loops ≡ ls → Took (take_process row st ls) r cells pool
-      go [] l = f l
-      go (x ∷ ls) l = absurd (omega (arith, h.opened, ap length l))
+      go : (ls : List ℕ) → st.loops ≡ ls → ◌≡◌ {A = Option ℕ} None (first_of ls) → Took (take_process row st ls) r w'
+      go [] l k = f l
+      go (x ∷ ls) l k = absurd (cc)
 
-  pub process_next : w.opened ≤ 0 → w.begun ≡ true → Nexts row w r → Takes (λ st. take_process row st st.loops) w r
-  process_next k b n st cells pool h = closed st k h (λ l. n st cells pool h l (sym h.begun ∙ b))
+  module _ (none : (st : Draft) → IsDraft st w → None ≡ first_of st.loops) where
+    pub process_next : (r : Step) (w' : Drafting) → w.begun ≡ true → Nexts row w r w' → Takes (λ st. take_process row st st.loops) w r w'
+    process_next r w' b n st h = closed st r w' (none st h) (λ l. n st h l (sym h.begun ∙ b))
 
-  pub process_first : w.opened ≤ 0 → w.begun ≡ false → Goes r (first_in w) → Takes (λ st. take_process row st st.loops) w r
-  unfolding beginning with_first stacked
-  process_first k b g st cells pool h =
-      closed st k h (λ l.
-      rw (sym h.begun ∙ b)
-      (goes g (record {
-        counted = h.counted;
-        written = h.written;
-        opened = h.opened ∙ ap length l;
-        long = h.long;
-        loops = refl;
-        begun = refl;
-        heads = h.heads;
-        used = h.used;
-        count = h.count;
-        words = h.words;
-        bytes = h.bytes;
-      })))
+    pub process_first : w.begun ≡ false → Takes (λ st. take_process row st st.loops) w (Ok tt) (first_in w)
+    unfolding beginning with_first stacked
+    process_first b st h =
+        closed st (Ok tt) (first_in w) (none st h) (λ l.
+        rw (sym h.begun ∙ b) (
+          refl,
+          record {
+            counted = h.counted;
+            written = h.written;
+            opened = h.opened ∙ ap length l;
+            long = h.long;
+            loops = refl;
+            begun = refl;
+            heads = h.heads;
+            used = h.used;
+            count = h.count;
+            words = h.words;
+            bytes = h.bytes;
+          },
+        ))

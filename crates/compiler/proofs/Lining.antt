@@ -1,4 +1,5 @@
 -- A LINE IS TAKEN as the definition takes it: a law for each way on. Assumes nothing.
+use Rattle.std.specs.Prelude.{Result, Ok, Err}
 use Prim.Native.Nat.{ℕ, ◌+◌, ◌≤◌, ◌<◌}
 use mathlib.Core.Path.{◌≡◌, refl, sym, ap, ◌∙◌}
 use mathlib.Core.Bool.{Bool, true, false}
@@ -23,13 +24,11 @@ use Rattle.language.specs.Draft.{Draft, count_line, take_counted, is_comment, ta
 use Rattle.language.proofs.Meanings.{meaning_right_lem}
 use Rattle.language.proofs.TableCells.{data_room, data_few}
 use Rattle.compiler.specs.declared.drafting.Drafting.{Drafting}
-use Rattle.compiler.specs.declared.drafting.Step.TheVariants.{Stop}
-use Rattle.compiler.specs.Inside.NoLines.{comment_line}
-use Rattle.compiler.specs.Inside.Drafting.{Work, Stepped, IsDraft, Took, HasRoom, Ready, bytes_of_line, Steps}
-use Rattle.compiler.proofs.Standing.{Goes, goes}
+use Rattle.compiler.specs.declared.drafting.Stop.{Stop}
+use Rattle.compiler.specs.Inside.Drafting.{Step, stopped, IsDraft, Took, Takes, HasRoom, Ready, bytes_said, comment_said, StepsSaid}
 use Rattle.compiler.proofs.Stepping.{bytes_told, steps_on}
 
-comment_told : (m : Meaning) → comment_line (line_from m) ≡ is_comment m
+comment_told : (m : Meaning) → comment_said (line_from m) ≡ is_comment m
 unfolding line_from is_comment
 comment_told comment = refl
 comment_told blank = refl
@@ -56,14 +55,13 @@ data_fits (set_omit bs) h = omega (arith, data_room omit_room bs h)
 data_fits (set_lfext e) h = omega arith
 data_fits (fault n) h = omega arith
 
-abbrev counted_in : Work → Work
-counted_in w = record { counted = w.counted + 1; cells = w.cells; opened = w.opened; loops = w.loops; begun = w.begun; heads = w.heads }
+abbrev pub counted_in : Drafting → Drafting
+counted_in w = record w { counted = w.counted + 1 }
 
-pub counted_within : {w : Drafting} → Ready w → w.counted < lines_limit
-    → HasRoom (record { counted = w.counted + 1; cells = w.cells; opened = w.opened; begun = w.begun; processes = w.processes; used = w.used })
+pub counted_within : {w : Drafting} → Ready w → w.counted < lines_limit → HasRoom (counted_in w)
 counted_within i k = record { room = omega (arith, i.room); deep = i.deep; some = i.some; few = i.few }
 
-counted_on : {st : Draft} {w : Work} {cells pool : List ℕ} → IsDraft st w cells pool → IsDraft (count_line st) (counted_in w) cells pool
+counted_on : {st : Draft} {w : Drafting} → IsDraft st w → IsDraft (count_line st) (counted_in w)
 unfolding count_line
 counted_on h =
     record {
@@ -80,57 +78,49 @@ counted_on h =
       bytes = h.bytes;
     }
 
--- what a line comes to, for every draft that stands
-abbrev pub Lines : ℕ → List ℕ → Work → List ℕ → List ℕ → Stepped → List ℕ → List ℕ → Type 0
-Lines row l w cells pool r cells' pool' = (st : Draft) → IsDraft st w cells pool → Took (take_line row st l) r cells' pool'
-
-pub long_stop : (row : ℕ) (l : List ℕ) (w : Work) (cells pool : List ℕ) (r : Stepped) → line_limit < length l → r.step ≡ Stop LineTooLong row
-    → Lines row l w cells pool r cells pool
+pub long_stop : (row : ℕ) (l : List ℕ) (w w' : Drafting) → line_limit < length l → Takes (λ st. take_line row st l) w (stopped LineTooLong row) w'
 unfolding take_line
-long_stop row l w cells pool r k e st h = rw (lt-ltb line_limit (length l) k) e
+long_stop row l w w' k st h = rw (lt-ltb line_limit (length l) k)
 
 -- a line whose rest is wrong is not too long: 1 comes before 4
-pub bad_rest_short : (row : ℕ) (st : Draft) (l : List ℕ) (r : Stepped) (cells pool : List ℕ) {f : TextFault} {n : ℕ} → Took (take_line row st l) r cells pool
-    → r.step ≡ Stop f n → f ≡ BadRest → length l ≤ line_limit
+pub bad_rest_short : (row : ℕ) (st : Draft) (l : List ℕ) (x : Stop) (w' : Drafting) → Took (take_line row st l) (Err x) w' → x.fault ≡ BadRest → length l ≤ line_limit
 unfolding take_line
-bad_rest_short row st l r cells pool k e b = go (ltb line_limit (length l)) refl
+bad_rest_short row st l x w' k b = go (ltb line_limit (length l)) refl
   where
     go : (t : Bool) → ltb line_limit (length l) ≡ t → length l ≤ line_limit
     go false t = ltb-false line_limit (length l) t
     go true t =
-        let x : r.step ≡ Stop LineTooLong row = rw t at k in
-        let z : ◌≡◌ {A = ℕ} 0 1 = cc in
-        absurd (omega arith)
+        let e : ◌≡◌ {A = Step} (Err x) (stopped LineTooLong row) = rw t at k in
+        absurd (cc)
 
-module _ (l : List ℕ) (short : length l ≤ line_limit) {said : Line} (told : said ≡ line_of l) where
+module _ (l : List ℕ) (short : length l ≤ line_limit) {said : Result Line TextFault} (told : said ≡ line_of l) where
   says_meaning : said ≡ line_from (meaning l)
   unfolding line_of meaning_in
   says_meaning = told ∙ rw (le-ltb line_limit (length l) short)
 
-  comment_is : comment_line said ≡ is_comment (meaning l)
-  comment_is = ap comment_line says_meaning ∙ comment_told (meaning l)
+  comment_is : comment_said said ≡ is_comment (meaning l)
+  comment_is = ap comment_said says_meaning ∙ comment_told (meaning l)
 
-  pub said_fits : all in_line l ≡ true → bytes_of_line said ≤ 128
-  said_fits i = omega (arith, ap bytes_of_line says_meaning ∙ bytes_told (meaning l), data_fits (meaning l) (meaning_right_lem l short i))
+  pub said_fits : all in_line l ≡ true → bytes_said said ≤ 128
+  said_fits i = omega (arith, ap bytes_said says_meaning ∙ bytes_told (meaning l), data_fits (meaning l) (meaning_right_lem l short i))
 
-  module _ (row : ℕ) (w : Work) (cells pool : List ℕ) (r : Stepped) where
-    pub comment_on : comment_line said ≡ true → Goes r w → Lines row l w cells pool r cells pool
+  module _ (row : ℕ) (w : Drafting) where
+    pub comment_on : comment_said said ≡ true → Takes (λ st. take_line row st l) w (Ok tt) w
     unfolding take_line
-    comment_on c g st h = rw (le-ltb line_limit (length l) short, sym comment_is ∙ c) (goes g h)
+    comment_on c st h = rw (le-ltb line_limit (length l) short, sym comment_is ∙ c) (refl, h)
 
-    pub many_stop : comment_line said ≡ false → lines_limit ≤ w.counted → r.step ≡ Stop TooManyLines row → Lines row l w cells pool r cells pool
+    pub many_stop : (w' : Drafting) → comment_said said ≡ false → lines_limit ≤ w.counted → Takes (λ st. take_line row st l) w (stopped TooManyLines row) w'
     unfolding take_line take_counted
-    many_stop c k e st h =
+    many_stop w' c k st h =
         let many : lines_limit ≤ st.counted = omega (arith, h.counted) in
-        rw (le-ltb line_limit (length l) short, sym comment_is ∙ c, le-ltb st.counted lines_limit many) e
+        rw (le-ltb line_limit (length l) short, sym comment_is ∙ c, le-ltb st.counted lines_limit many)
 
-    pub counts_on : all in_line l ≡ true → (lent lent' cells' pool' : List ℕ) → lent' ≡ sets lent 0 (line_data l)
-        → comment_line said ≡ false → w.counted < lines_limit → Steps row lent' (counted_in w) cells pool r cells' pool' said
-        → Lines row l w cells pool r cells' pool'
+    pub counts_on : (r : Step) (w' : Drafting) (lent lent' : List ℕ) → all in_line l ≡ true → lent' ≡ sets lent 0 (line_data l)
+        → comment_said said ≡ false → w.counted < lines_limit → StepsSaid row lent' (counted_in w) r w' said → Takes (λ st. take_line row st l) w r w'
     unfolding take_line take_counted line_data meaning_in
-    counts_on i lent lent' cells' pool' e c k s st h =
+    counts_on r w' lent lent' i e c k s st h =
         let less : st.counted < lines_limit = omega (arith, h.counted) in
         rw (le-ltb line_limit (length l) short, sym comment_is ∙ c, lt-ltb st.counted lines_limit less)
-        (steps_on row lent' (counted_in w) cells pool r cells' pool' (meaning l) (meaning_right_lem l short i)
+        (steps_on row lent' (counted_in w) r w' (meaning l) (meaning_right_lem l short i)
         (record { before = lent; put = e ∙ rw (le-ltb line_limit (length l) short) })
         (rw says_meaning at s) (count_line st) (counted_on h))

@@ -13,7 +13,8 @@ use Rattle.language.specs.Script.{Meaning, comment, blank, process, set_ex, says
 use Rattle.language.specs.Meaning.{extension, is_capital}
 use Rattle.language.specs.Inside.Right.{meaning_right}
 use Rattle.language.specs.Draft as draft
-use Rattle.compiler.specs.Inside.Drafting.{Work, Stepped, Fronts, bytes_of_line, Into, Steps}
+use Rattle.compiler.specs.declared.drafting.Drafting.{Drafting}
+use Rattle.compiler.specs.Inside.Drafting.{Step, Fronts, bytes_said, Takes, StepsSaid}
 use Rattle.compiler.proofs.Writing.{told}
 
 few_letters : (e : List ℕ) → extension e ≡ true → length e ≤ 3
@@ -21,7 +22,7 @@ unfolding extension
 few_letters e h = leb-true (length e) 3 (both_right (ltb 0 (length e)) (leb (length e) 3) (both_left (ltb 0 (length e) && leb (length e) 3) (all is_capital e) h))
 
 -- the length of the data is told by the line
-pub bytes_told : (m : Meaning) → bytes_of_line (line_from m) ≡ length (data_from m)
+pub bytes_told : (m : Meaning) → bytes_said (line_from m) ≡ length (data_from m)
 unfolding line_from data_from
 bytes_told comment = refl
 bytes_told blank = refl
@@ -34,9 +35,9 @@ bytes_told (set_omit bs) = refl
 bytes_told (set_lfext e) = refl
 bytes_told (fault f) = refl
 
-module _ (row : ℕ) (lent : List ℕ) (w : Work) (cells pool : List ℕ) (r : Stepped) (cells' pool' : List ℕ) where
-  pub steps_on : (m : Meaning) → meaning_right m ≡ true → Fronts lent (data_from m) → Steps row lent w cells pool r cells' pool' (line_from m)
-      → Into row lent w cells pool r cells' pool' (λ st. draft.take_meaning row st m)
+module _ (row : ℕ) (lent : List ℕ) (w : Drafting) (r : Step) (w' : Drafting) where
+  pub steps_on : (m : Meaning) → meaning_right m ≡ true → Fronts lent (data_from m) → StepsSaid row lent w r w' (line_from m)
+      → Takes (λ st. draft.take_meaning row st m) w r w'
   unfolding line_from data_from draft.take_meaning meaning_right
   steps_on comment h f x = x
   steps_on blank h f x = x

@@ -1,20 +1,25 @@
 -- PLACES IN A TEXT: a part of it, the CR at its end, and the lines of what is left. Assumes nothing.
-use Prim.Native.Nat.{ℕ, suc, ◌+◌, ◌-◌, ◌≤◌, ◌<◌}
-use mathlib.Core.Path.{◌≡◌, sym, ap, ◌∙◌}
+use Rattle.std.specs.Prelude.{Some, None, position}
+use Rattle.std.proofs.lemmas.List.Quantifiers.{position-Some}
+use Rattle.std.proofs.lemmas.List.Sums.{prefix_len_passes}
+use Rattle.std.proofs.lemmas.Grind.{common_steps}
+use Rattle.std.specs.List.{position_or_len}
+use Prim.Native.Nat.{ℕ, zero, suc, ◌+◌, ◌-◌, ◌≤◌, ◌<◌}
+use mathlib.Core.Path.{◌≡◌, refl, sym, ap, ◌∙◌}
 use mathlib.Core.Bool.{Bool, true, not, ◌&&◌, and-true, and_assoc}
 use mathlib.Core.List.{List, [], ◌∷◌, ◌++◌}
 use native.Mathlib.Numerals.{add-one}
 use native.Mathlib.Omega.{arith}
 use lib.Dec.{leb, eqb}
-use lib.ListN.{length, get_or, drop, length-drop, take-append-drop, drop_of_length-le}
+use lib.ListN.{length, get_or, take, drop, length-drop, take-append-drop, drop_of_length-le}
 use lib.Seq.{take-suc, take-add, get_or-drop, length-take-le, drop-drop, drop-cons, take_all}
-use borrow.Author.Tests.{leb-true, eq-eqb, ne_eqb}
+use borrow.Author.Tests.{eqb-true, leb-true, eq-eqb, ne_eqb}
 use Rattle.reader.specs.Bytes.{all}
 use Rattle.reader.proofs.Tests.{both_left, both_right, all_append}
 use Rattle.language.specs.Lines.{drop_cr, raw_lines, each_line, lines_of}
 use Rattle.language.proofs.Bytes.{are_bytes}
 use Rattle.language.proofs.Cutting.{NoLf, Begun, line_ended_lem, line_last, line_begun, cr_last, AllInLine, text_lines}
-use Rattle.compiler.specs.Inside.Text.{part, no_lf, clear_from}
+use Rattle.compiler.specs.Inside.Text.{part, no_lf, clear_from, EndsAt}
 
 pub part_none : (s : List ℕ) (a : ℕ) → part s a a ≡ []
 part_none s a = let n : a - a ≡ 0 = omega arith in rw n
@@ -67,21 +72,57 @@ pub clear_past : (s : List ℕ) (a e : ℕ) → a ≤ e → clear_from s e ≡ t
 clear_past s a e from h c =
     no_lf_joined s a e (e + 16) from (omega arith) c (both_right (leb (e + 16) (length s)) (no_lf (part s e (e + 16))) h)
 
+-- what is left of a text
+pub rest : (s : List ℕ) (from : ℕ) → take (length s - from) (drop from s) ≡ drop from s
+rest s from = take_all (length s - from) (drop from s) (omega (arith, length-drop from s))
+
+-- where the search for an LF finds one, and where it finds none
+clear_before : (l : List ℕ) (n : ℕ) → ((k : ℕ) → k < n → not (eqb (get_or l k 0) 10) ≡ true) → no_lf (take n l) ≡ true
+clear_before l zero h = refl
+clear_before [] (suc n) h = refl
+clear_before (b ∷ l) (suc n) h = rw (h 0 (omega arith)) (clear_before l n (λ k i. h (suc k) (omega arith)))
+
+pub feed_at : (s : List ℕ) (from at : ℕ) → from ≤ length s → position (λ b. eqb b 10) (drop from s) ≡ Some at → EndsAt s from (from + at)
+feed_at s from at h e =
+    let found = position-Some (λ (b : ℕ). eqb b 10) (drop from s) at 0 e in
+    let n : from + at - from ≡ at = omega arith in
+    let inside : from + at < length s = omega (arith, found.0, length-drop from s) in
+    record {
+      begun = omega arith;
+      upto = omega arith;
+      clear = rw n (clear_before (drop from s) at (λ k i. rw (found.2 k i)));
+      feed = λ _. eqb-true (get_or s (from + at) 0) 10 (rw get_or-drop at found.1);
+    }
+
+pub no_feed_left : (s : List ℕ) (from : ℕ) → from ≤ length s → position (λ b. eqb b 10) (drop from s) ≡ None → EndsAt s from (length s)
+no_feed_left s from h e =
+    let n : length s - from ≡ length (drop from s) = sym (length-drop from s) in
+    let past : length (drop from s) ≤ position_or_len (λ (b : ℕ). eqb b 10) (drop from s) = grind (arith, common_steps) in
+    record {
+      begun = h;
+      upto = omega arith;
+      clear = rw n (clear_before (drop from s) (length (drop from s)) (λ k i. prefix_len_passes (λ (b : ℕ). not (eqb b 10)) (drop from s) k 0 (omega arith)));
+      feed = λ k. absurd (omega arith);
+    }
+
 -- ---- one CR at the end
 
-module _ (s : List ℕ) (a e : ℕ) (in-text : e ≤ length s) where
-  last : a < e → part s a e ≡ part s a (e - 1) ++ get_or s (e - 1) 0 ∷ []
-  last h = let n : e - 1 + 1 ≡ e = omega arith in rw n at (part_more s a (e - 1) (omega arith) (omega arith))
+module _ (l : List ℕ) (some : 1 ≤ length l) where
+  last : l ≡ take (length l - 1) l ++ get_or l (length l - 1) 0 ∷ []
+  last =
+      let n : length l ≡ suc (length l - 1) = omega arith in
+      sym (take_all (length l) l (omega arith)) ∙ ap (λ (m : ℕ). take m l) n ∙ take-suc l (length l - 1) 0 (omega arith)
 
-  pub cr_dropped : a < e → get_or s (e - 1) 0 ≡ 13 → drop_cr (part s a e) ≡ part s a (e - 1)
-  cr_dropped h k = ap drop_cr (last h) ∙ cr_last (part s a (e - 1)) (get_or s (e - 1) 0) ∙ rw (eq-eqb _ _ k)
+  pub cr_dropped : get_or l (length l - 1) 0 ≡ 13 → take (length l - 1) l ≡ drop_cr l
+  cr_dropped k = sym (ap drop_cr last ∙ cr_last (take (length l - 1) l) (get_or l (length l - 1) 0) ∙ rw (eq-eqb _ _ k))
 
-  pub cr_kept : a < e → (get_or s (e - 1) 0 ≡ 13 → ⊥) → drop_cr (part s a e) ≡ part s a e
-  cr_kept h k = ap drop_cr (last h) ∙ cr_last (part s a (e - 1)) (get_or s (e - 1) 0) ∙ rw (ne_eqb _ _ k) (sym (last h))
+  pub cr_kept : (get_or l (length l - 1) 0 ≡ 13 → ⊥) → l ≡ drop_cr l
+  cr_kept k = sym (ap drop_cr last ∙ cr_last (take (length l - 1) l) (get_or l (length l - 1) 0) ∙ rw (ne_eqb _ _ k) (sym last))
 
-pub cr_none : (s : List ℕ) (a e : ℕ) → a ≤ e → e ≤ a → drop_cr (part s a e) ≡ part s a e
+pub cr_none : (l : List ℕ) → length l < 1 → l ≡ drop_cr l
 unfolding drop_cr
-cr_none s a e h k = let n : e - a ≡ 0 = omega arith in rw n
+cr_none [] h = refl
+cr_none (b ∷ l) h = absurd (omega arith)
 
 -- ---- the lines of what is left
 

@@ -1,6 +1,5 @@
 -- What the private functions answer, as the code goes through it. Nothing here has to be believed.
 pub mod Text
 pub mod Needs
-pub mod NoLines
 pub mod Drafting
 pub mod Ending

@@ -1,8 +1,6 @@
 // Where a line ends: the search for its LF.
-ghost use Rattle.std.specs.Prelude.{◌≡◌, ◌≤◌, length};
+ghost use Rattle.std.specs.Prelude.{◌≡◌, ◌≤◌, ◌==◌, length, position};
 ghost use Rattle.compiler.specs.Inside.Text.{clear_from, EndsAt};
-
-use reader::widths::both;
 
 /// Whether sixteen bytes from a place on are there and none is an LF: no branch parts them, so that they are compared at once.
 pub(crate) fn no_feed(text: &[u8], from: usize) -> bool
@@ -13,12 +11,17 @@ pub(crate) fn no_feed(text: &[u8], from: usize) -> bool
         return false;
     }
     let mut none = true;
-    let mut i = 0usize;
-    while i < 16 {
-        none = both(none, text[from + i] != b'\n');
-        i += 1;
+    for byte in &text[from..from + 16] {
+        none &= *byte != b'\n';
     }
     none
+}
+
+// The place of the first LF.
+fn first_feed(text: &[u8]) -> Option<usize>
+    ensures { result ≡ position (λ b. b == 10) text.now }
+{
+    text.iter().position(|byte| *byte == b'\n')
 }
 
 /// The place of the first LF from a place on, or the end of the text.
@@ -26,12 +29,8 @@ pub(crate) fn next_feed(text: &[u8], from: usize) -> usize
     requires { from ≤ length text.now }
     ensures { EndsAt text.now from result }
 {
-    let mut end = from;
-    while end < text.len() {
-        if text[end] == b'\n' {
-            return end;
-        }
-        end += 1;
+    match first_feed(&text[from..]) {
+        Some(at) => from + at,
+        None => text.len(),
     }
-    end
 }

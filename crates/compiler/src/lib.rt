@@ -4,9 +4,8 @@
 ghost use Rattle.std.specs.Prelude.{◌≡◌};
 ghost use Rattle.language.specs.Answer.{compiled};
 
-use crate::drafting::refusal;
-use crate::lines::take_text;
-use language::{Compiled, TEXT, TextFault};
+use crate::drafting::{Drafting, refused};
+use language::Compiled;
 
 mod columns;
 mod drafting;
@@ -20,8 +19,12 @@ mod steps;
 pub fn compile(text: &[u8]) -> Compiled
     ensures { result ≡ compiled text.now }
 {
-    if TEXT < text.len() {
-        return refusal(TextFault::TextTooLong, 0, 0);
+    let mut draft = Drafting::new();
+    match draft.take_text(text) {
+        Ok(stretch) => Compiled {
+            answer: Ok(stretch),
+            table: draft.table,
+        },
+        Err(refusal) => refused(refusal),
     }
-    take_text(text)
 }

@@ -1,4 +1,8 @@
 // What a program says. A write that fails is told on standard error.
+ghost use Rattle.std.specs.Prelude.{◌≡◌};
+
+use std::fmt::Display;
+use std::io;
 use std::io::Error;
 
 // The system's word for an error, without the number that std puts behind it.
@@ -20,28 +24,24 @@ pub(crate) fn fail(rt: HostRuntime, name: &[u8], error: Error) {
     tell_word(rt, error);
 }
 
-// Whether a write went well.
-fn is_written(rt: HostRuntime, written: Result<(), Error>) -> bool {
-    match written {
-        Ok(()) => true,
-        Err(error) => {
-            fail(rt, b"standard output", error);
-            false
-        }
-    }
+// Hands on what came of something; what failed is told by its name.
+pub(crate) fn told<T>(rt: HostRuntime, name: &[u8], came: io::Result<T>) -> io::Result<T>
+    ensures { result ≡ came }
+{
+    came.inspect_err(|error| fail(rt, name, *error))
 }
 
-// Whether all of a text was written.
-pub fn tell(rt: HostRuntime, to: &impl Print, text: &[u8]) -> bool {
-    is_written(rt, to.write_all(text))
+// A text, on standard output or standard error.
+pub fn tell(rt: HostRuntime, to: &impl Print, text: &[u8]) -> io::Result<()> {
+    told(rt, b"standard output", to.write_all(text))
 }
 
 // On standard output.
-pub fn say(rt: HostRuntime, text: &[u8]) -> bool {
+pub fn say(rt: HostRuntime, text: &[u8]) -> io::Result<()> {
     tell(rt, &rt.stdout(), text)
 }
 
-// On standard output, in decimal.
-pub fn say_number(rt: HostRuntime, n: u64) -> bool {
-    is_written(rt, rt.print(n))
+// On standard output, whatever can be printed.
+pub fn print(rt: HostRuntime, what: impl Display + Drop) -> io::Result<()> {
+    told(rt, b"standard output", rt.print(what))
 }

@@ -2,103 +2,76 @@
 #![tactic(auto)]
 
 use console::arguments::{Given, asked, is_word};
-use console::lines::{BLOCK, Line, next_line, nothing};
-use console::parts::{first, rest_from};
+use console::lines::{LineFault, Lines};
 use console::reading::{open, read_file};
-use console::saying::{say, say_number, tell};
+use console::saying::{print, say, tell};
+use std::io;
 use std::io::Read;
 
-fn usage(rt: HostRuntime, to: &impl Print) {
-    tell(rt, to, b"usage: console_cases [--help] < LINES\n")
-        && tell(
-            rt,
-            to,
-            b"Prints what the library `console` makes of its words, of two files\n",
-        )
-        && tell(rt, to, b"and of the lines of its input.\n");
+fn usage(rt: HostRuntime, to: &impl Print) -> io::Result<()> {
+    tell(
+        rt,
+        to,
+        b"usage: console_cases [--help] < LINES\n\
+        Prints what the library `console` makes of its words, of two files\n\
+        and of the lines of its input.\n",
+    )
 }
 
-fn say_words(rt: HostRuntime) {
-    let given = asked(rt, 1);
-    match given {
+fn say_words(rt: HostRuntime) -> io::Result<()> {
+    match asked(rt, 1) {
         Given::Help => usage(rt, &rt.stdout()),
-        Given::Mistaken => {
-            say(rt, b"mistaken\n");
-        }
-        Given::Words(count) => {
-            say_number(rt, count as u64) && say(rt, b" words\n");
-        }
+        Given::Mistaken => say(rt, b"mistaken\n"),
+        Given::Words(count) => print(rt, format_args!("{count} words\n")),
     }
 }
 
 fn say_answer(rt: HostRuntime, is: bool) {
-    if is {
-        say(rt, b"yes\n");
-    } else {
-        say(rt, b"no\n");
-    }
+    let _ = say(rt, if is { b"yes\n" } else { b"no\n" });
 }
 
-fn say_file(rt: HostRuntime, name: &[u8]) {
-    let mut text = [0u8; 64];
-    let whole = read_file(rt, name, &mut text);
-    say(rt, name) && say(rt, b": ") && say_number(rt, whole.n as u64) && say(rt, b" bytes, read: ");
-    say_answer(rt, whole.is_read);
+fn say_file(rt: HostRuntime, name: &str) {
+    let read = read_file(rt, name.as_bytes(), 64);
+    let is_read = read.is_ok();
+    let n = read.map_or(0, |text| text.len());
+    let _ = print(rt, format_args!("{name}: {n} bytes, read: "));
+    say_answer(rt, is_read);
 }
 
-// Whether another line may follow.
-fn say_line(rt: HostRuntime, line: Line, text: &[u8]) -> bool {
-    match line {
-        Line::Of => say(rt, b"[") && say(rt, text) && say(rt, b"]\n"),
-        Line::TooLong => say(rt, b"too long\n"),
-        Line::End => {
-            say(rt, b"end\n");
-            false
-        }
-        _ => {
-            say(rt, b"unread\n");
-            false
-        }
-    }
+fn say_line(rt: HostRuntime, line: &[u8]) -> io::Result<()> {
+    say(rt, b"[")?;
+    say(rt, line)?;
+    say(rt, b"]\n")
 }
 
-fn text_of(block: &[u8; BLOCK], from: usize, to: usize) -> &[u8] {
-    rest_from(first(block, to), from)
-}
-
-fn say_lines<R: Read>(rt: HostRuntime, input: &mut R, name: &[u8]) {
-    let mut block = [0u8; BLOCK];
-    let mut held = nothing();
-    let mut left = 100u32;
-    while 0 < left {
-        left -= 1;
-        let next = next_line(rt, input, name, &mut block, held);
-        let now = next.held;
-        held = now;
-        let line = next.line;
-        if !say_line(rt, line, text_of(&block, next.from, next.to)) {
-            return;
+fn say_lines<R: Read>(rt: HostRuntime, input: &mut R, name: &[u8]) -> io::Result<()> {
+    let mut lines = Lines::new(rt, input, name)?;
+    for _ in 0..100 {
+        match lines.next() {
+            Ok(Some(line)) => say_line(rt, line)?,
+            Ok(None) => return say(rt, b"end\n"),
+            Err(LineFault::TooLong) => say(rt, b"too long\n")?,
+            Err(LineFault::Unread) => return say(rt, b"unread\n"),
         }
     }
+    Ok(())
 }
 
 // A folder is opened as a file is, and cannot be read.
-fn say_folder(rt: HostRuntime) {
+fn say_folder(rt: HostRuntime) -> io::Result<()> {
     match open(rt, b".") {
         Ok(mut folder) => say_lines(rt, &mut folder, b"the folder"),
-        Err(_) => {
-            say_line(rt, Line::Unread, b"");
-        }
+        Err(_) => say(rt, b"unread\n"),
     }
 }
 
 fn main(rt: HostRuntime) {
-    say_words(rt);
+    let _ = say_words(rt);
     say_answer(rt, is_word(rt, 1, b"--help"));
     say_answer(rt, is_word(rt, 1, b"--hel"));
     say_answer(rt, is_word(rt, 2, b""));
-    say_file(rt, b"note");
-    say_file(rt, b"nowhere");
-    say_lines(rt, &mut rt.stdin(), b"standard input");
-    say_folder(rt);
+    say_file(rt, "note");
+    say_file(rt, "nowhere");
+    let _ = say_lines(rt, &mut rt.stdin(), b"standard input");
+    let _ = say_folder(rt);
 }

@@ -2,33 +2,27 @@
 use Prim.Native.Nat.{ℕ, ◌+◌, ◌-◌, ◌≤◌, ◌<◌}
 use mathlib.Core.Path.{◌≡◌, refl}
 use mathlib.Core.Bool.{true}
-use mathlib.Core.List.{List, [], ◌∷◌}
+use mathlib.Core.List.{List}
 use native.Mathlib.Omega.{arith}
 use lib.Dec.{leb}
 use lib.ListN.{length, take, drop, length-take, length-drop}
 use Rattle.reader.proofs.Tests.{both_left, both_right}
 use Rattle.language.specs.Limits.{data_limit}
-use types.Run.{OneOf, miss}
-use denote.Enum.Declared.{tag_of}
 use borrow.Author.Tests.{leb-true, ltb-true, le-leb, lt-leb, eq-eqb, ne_eqb}
 use Rattle.process.specs.declared.Progress.{Progress}
 use Rattle.process.specs.declared.Wait.{Wait}
 use Rattle.process.specs.declared.Wait.TheVariants.{Ready, Over, Ticks, Bytes, Data, ClockValue, Signal}
-use Rattle.process.specs.contracts.Wait.{the_type}
 use Rattle.process.specs.Waiting.{progress_right, awake, awaited, matched_to, matched_wait, byte_wait}
 
--- the waits that a byte does not move, by their tags: the code's last arm
-abbrev others : List ℕ
-others = 0 ∷ 1 ∷ 2 ∷ 5 ∷ 6 ∷ []
-
-pub others_stay : (pool : List ℕ) (b place end : ℕ) (w : Wait) → OneOf others (tag_of the_type w) → w ≡ byte_wait pool b place end w
-others_stay pool b place end Ready h = refl
-others_stay pool b place end Over h = refl
-others_stay pool b place end (Ticks n) h = refl
-others_stay pool b place end (Bytes n) h = absurd (miss others 3 tt h)
-others_stay pool b place end (Data m) h = absurd (miss others 4 tt h)
-others_stay pool b place end (ClockValue c) h = refl
-others_stay pool b place end (Signal l) h = refl
+-- the waits that a byte does not move: the code's last arm
+pub others_stay : (pool : List ℕ) (b place end : ℕ) (w : Wait) → ((n : ℕ) → w ≡ Bytes n → ⊥) → ((m : Progress) → w ≡ Data m → ⊥) → w ≡ byte_wait pool b place end w
+others_stay pool b place end Ready g h = refl
+others_stay pool b place end Over g h = refl
+others_stay pool b place end (Ticks n) g h = refl
+others_stay pool b place end (Bytes n) g h = absurd (g n refl)
+others_stay pool b place end (Data m) g h = absurd (h m refl)
+others_stay pool b place end (ClockValue c) g h = refl
+others_stay pool b place end (Signal l) g h = refl
 
 module _ (place end : ℕ) where
   pub bytes_end : (pool : List ℕ) (b n : ℕ) → n ≤ 1 → byte_wait pool b place end (Bytes n) ≡ awake place end

@@ -4,16 +4,14 @@ use mathlib.Core.Path.{◌≡◌, refl}
 use mathlib.Core.Bool.{Bool, true, false}
 use mathlib.Core.List.{List, [], ◌∷◌}
 use lib.ListN.{replicate}
+use Rattle.std.specs.Prelude.{Ok, Err}
 use Rattle.language.specs.declared.Heads.{Heads}
 use Rattle.reader.specs.Bytes as bytes
 use Rattle.process.specs.declared.Wait.{Wait}
 use Rattle.process.specs.declared.Wait.TheVariants.{Ready, Over, Ticks, Data}
 use Rattle.process.specs.declared.Process.{Process}
 use Rattle.process.specs.declared.State.{State}
-use Rattle.process.specs.declared.Received.{Received}
-use Rattle.process.specs.declared.Received.TheVariants.{Took, Refused}
-use Rattle.process.specs.declared.Taken.{Taken}
-use Rattle.process.specs.declared.Taken.TheVariants as taken
+use Rattle.process.specs.Answers.{Taken, Received}
 use Rattle.process.specs.Matching as matching
 use Rattle.process.specs.Waiting as waiting
 use Rattle.process.specs.State.{run_refusal_number, busy}
@@ -56,8 +54,8 @@ pub data Said : Type 0 where
   number recorded : ℕ → Said
 
 abbrev said : Received → Said
-said (Took c) = recorded c.count
-said (Refused r) = number (run_refusal_number r)
+said (Ok c) = recorded c.count
+said (Err r) = number (run_refusal_number r)
 
 -- how many OMIT bytes, what is waited for, the byte, and what it is answered; the pool is of zeros
 abbrev Bytes : List (ℕ × (Wait × (ℕ × Said))) → Type 0
@@ -92,8 +90,8 @@ cases_hold = (refl, (refl, (refl, (refl, (refl, (refl, (refl, (refl, (refl, (ref
 -- ---- a level and a reading: 21 while a process is ready, then 23 and 22
 
 abbrev number_of : Taken → ℕ
-number_of taken.Took = 0
-number_of (taken.Refused r) = run_refusal_number r
+number_of (Ok u) = 0
+number_of (Err r) = run_refusal_number r
 
 -- a wait, a signal, and the number that its level is refused by; 0 where it is taken
 abbrev Levels : List (Wait × (ℕ × ℕ)) → Type 0

@@ -3,11 +3,11 @@ use Prim.Native.Nat.{ℕ}
 use mathlib.Core.Path.{◌≡◌, refl}
 use mathlib.Core.List.{List, [], ◌∷◌}
 use lib.ListN.{replicate}
+use Rattle.std.specs.Prelude.{Ok, Err}
 use Rattle.reader.specs.Bytes as bytes
 use Rattle.process.specs.declared.Wait.{Wait}
 use Rattle.process.specs.declared.Wait.TheVariants.{Ready, Over, Ticks, Bytes}
-use Rattle.process.specs.declared.Gulped.{Gulped}
-use Rattle.process.specs.declared.Gulped.TheVariants.{Took, Refused}
+use Rattle.process.specs.Answers.{Gulped}
 use Rattle.process.specs.Matching as matching
 use Rattle.process.specs.Waiting as waiting
 use Rattle.process.specs.State.{run_refusal_number, busy}
@@ -23,8 +23,8 @@ pub data Said : Type 0 where
   took : ℕ → ℕ → Said
 
 abbrev said : Gulped → Said
-said (Took g) = took g.taken g.recorded
-said (Refused r) = number (run_refusal_number r)
+said (Ok g) = took g.taken g.recorded
+said (Err r) = number (run_refusal_number r)
 
 -- how many OMIT bytes, all of them A; what the first process waits for, the others being over; the run and its room; the answer
 pub record Case : Type 0 where

@@ -7,11 +7,11 @@ use Prim.Native.Nat.{ℕ, zero, suc, ◌-◌, ◌≤◌, ◌<◌}
 use lib.Dec.{ltb}
 use lib.ListN.{replicate}
 use borrow.Author.Tests.{ltb-true, ltb-false}
+use Rattle.std.specs.Prelude.{Ok, Err}
 use Rattle.reader.proofs.Tests.{by_cases}
 use Rattle.process.specs.declared.Copies.{Copies}
 use Rattle.process.specs.declared.RunRefusal.{RunRefusal}
-use Rattle.process.specs.declared.Received.{Received}
-use Rattle.process.specs.declared.Received.TheVariants.{Took, Refused}
+use Rattle.process.specs.Answers.{Received}
 use Rattle.events.specs.Gulps.{Gulping, stop, more, copies, unless_refused, unless_ready, ticks_from, bytes_from}
 
 module _ {B : Type 0} (ready : B → Bool) where
@@ -32,15 +32,15 @@ module _ {B : Type 0} (ready : B → Bool) where
       (ends : (b : B) (room : ℕ) → R b [] room (stop b))
       (wakes : (b : B) (xs : List ℕ) (room : ℕ) → ready b ≡ true → R b xs room (stop b))
       (full : (b : B) (xs : List ℕ) (room : ℕ) → room < 2 → R b xs room (stop b))
-      (refuses : (b : B) (x : ℕ) (xs : List ℕ) (room : ℕ) (r : RunRefusal) → ready b ≡ false → answer x b ≡ Refused r → R b (x ∷ xs) room (stop b))
-      (step : (b : B) (x : ℕ) (xs : List ℕ) (room : ℕ) (c : Copies) (rest : Gulping B) → ready b ≡ false → 2 ≤ room → answer x b ≡ Took c →
+      (refuses : (b : B) (x : ℕ) (xs : List ℕ) (room : ℕ) (r : RunRefusal) → ready b ≡ false → answer x b ≡ Err r → R b (x ∷ xs) room (stop b))
+      (step : (b : B) (x : ℕ) (xs : List ℕ) (room : ℕ) (c : Copies) (rest : Gulping B) → ready b ≡ false → 2 ≤ room → answer x b ≡ Ok c →
       R (after x b) xs (room - c.count) rest → R b (x ∷ xs) room (more (replicate c.count x) rest))
     where
       one : (b : B) (x : ℕ) (xs : List ℕ) (room : ℕ) → ready b ≡ false → 2 ≤ room → (a : Received) → answer x b ≡ a →
           ((left : ℕ) → R (after x b) xs left (unless_ready ready (after x b) (bytes_from ready answer after (after x b) xs left))) →
           R b (x ∷ xs) room (unless_refused b x a (unless_ready ready (after x b) (bytes_from ready answer after (after x b) xs (room - copies a))))
-      one b x xs room q l (Took c) e rest = step b x xs room c _ q l e (rest (room - c.count))
-      one b x xs room q l (Refused r) e rest = refuses b x xs room r q e
+      one b x xs room q l (Ok c) e rest = step b x xs room c _ q l e (rest (room - c.count))
+      one b x xs room q l (Err r) e rest = refuses b x xs room r q e
 
       pub bytes_by : (b : B) (xs : List ℕ) (room : ℕ) → ready b ≡ false → R b xs room (bytes_from ready answer after b xs room)
       unfolding bytes_from

@@ -5,8 +5,8 @@ use mathlib.Core.Bool.{Bool, true, false, cond}
 use mathlib.Core.List.{List, [], ◌∷◌, ◌++◌}
 use lib.Dec.{ltb}
 use lib.ListN.{replicate}
-use Rattle.process.specs.declared.Received.{Received}
-use Rattle.process.specs.declared.Received.TheVariants as received
+use Rattle.std.specs.Prelude.{Ok, Err}
+use Rattle.process.specs.Answers.{Received}
 use Rattle.events.specs.Gulps.{Gulping, stop, more, copies, unless_refused, unless_ready, ticks_from, bytes_from}
 
 -- some stand for some: they are ready alike
@@ -56,5 +56,5 @@ module _ {B C : Type 0} (ready : B → Bool) (ready' : C → Bool) (Stands : B �
             Alike (cond u (stop b) (unless_refused b x a (unless_ready ready (after x b) (bytes_from ready answer after (after x b) xs (room - copies a)))))
             (cond u (stop c) (unless_refused c x a (unless_ready ready' (after' x c) (bytes_from ready' answer' after' (after' x c) xs (room - copies a)))))
         go true a rest = stop_alike b c s
-        go false (received.Took k) rest = more_alike (replicate k.count x) _ _ (rest (room - k.count))
-        go false (received.Refused r) rest = stop_alike b c s
+        go false (Ok k) rest = more_alike (replicate k.count x) _ _ (rest (room - k.count))
+        go false (Err r) rest = stop_alike b c s

@@ -2,14 +2,15 @@
 use mathlib.Core.Path.{◌≡◌, refl, sym, ap, ◌∙◌}
 use mathlib.Core.Bool.{Bool, true, false, cond}
 use mathlib.Core.List.{List, [], ◌∷◌, ◌++◌, map}
-use Prim.Native.Nat.{ℕ, suc, ◌-◌, ◌≤◌, ◌<◌}
+use Prim.Native.Nat.{ℕ, suc, ◌-◌, ◌≤◌}
 use native.Mathlib.Omega.{arith}
 use lib.Dec.{leb}
 use lib.ListN.{length, take, replicate}
 use lib.Seq.{sets}
-use borrow.Author.Tests.{leb-true, le-leb, lt-leb, le-ltb}
+use borrow.Author.Tests.{le-ltb}
+use Rattle.std.specs.Prelude.{Ok, Err}
 use Rattle.reader.specs.Bytes.{all}
-use Rattle.reader.proofs.Tests.{true_is_false, both_left, both_right}
+use Rattle.reader.proofs.Tests.{true_is_false, both_right}
 use Rattle.language.specs.declared.Heads.{Heads}
 use Rattle.language.specs.Limits.{omit_limit}
 use Rattle.process.specs.declared.Process.{Process}
@@ -17,16 +18,14 @@ use Rattle.process.specs.declared.State.{State}
 use Rattle.process.specs.declared.RunRefusal.{RunRefusal}
 use Rattle.process.specs.declared.RunRefusal.TheVariants.{Busy, BadTable}
 use Rattle.process.specs.declared.Event.{Event}
-use Rattle.process.specs.declared.ByteEvent.{ByteEvent}
 use Rattle.process.specs.declared.Copies.{Copies}
-use Rattle.process.specs.declared.Received.TheVariants as received
-use Rattle.process.specs.declared.Gulped.TheVariants.{Took}
+use Rattle.process.specs.Answers.{Received}
 use Rattle.process.specs.Waiting.{ready, byte_taken, range_right}
 use Rattle.process.specs.State.{any, busy, with_processes}
-use Rattle.events.specs.Events.{tick_event}
+use Rattle.events.specs.Events.{refused, tick_event}
 use Rattle.events.specs.Recording.{times_recorded}
 use Rattle.events.specs.Receiving.{ranges_right, answered_with, byte_event}
-use Rattle.events.specs.Gulps.{Gulping, stop, more, ticks_gulp, bytes_gulp, gulp_refused, ticks_event, bytes_event, bytes_records, records_after}
+use Rattle.events.specs.Gulps.{Gulping, stop, more, ticks_gulp, bytes_gulp, ticks_event, bytes_event, bytes_records, records_after}
 use Rattle.events.specs.Inside.Passing.{through, reach, each, ticks_of, tick_taken, ticks_on, ticks_reach, bytes_on, reach_all, records_of, room_for}
 use Rattle.events.proofs.EventCases.{tick_takes}
 use Rattle.events.proofs.ByteCases.{byte_takes}
@@ -60,7 +59,7 @@ one_tick s n rest q r = go (any ready ps) refl
     ps = each tick_taken 0 s.processes
 
     after : (tick_event s).state ≡ with_processes s (each tick_taken 0 s.processes)
-    after = ap (λ (e : Event). e.state) (tick_takes s (not_busy s q))
+    after = ap (λ (e : Event (Unit {0})). e.state) (tick_takes s (not_busy s q))
 
     go : (u : Bool) → any ready (each tick_taken 0 s.processes) ≡ u → more [] rest ≡ ticked s (suc n)
     go true e = rw e (ap (more []) (r.0 (ap busy after ∙ e) ∙ ap stop after))
@@ -72,12 +71,12 @@ ticks_gulp_lem s n q =
     (ticks_by busy (λ (z : State). (tick_event z).state) Ticks (λ z. (λ u. refl, λ u. refl)) (λ z m u. (λ v. refl, λ v. true_is_false (sym u ∙ v)))
     (λ z m rest u r. (λ v. true_is_false (sym v ∙ u), λ v. one_tick z m rest u r)) s n q).1 q
 
-pub ticks_busy : (s : State) (n : ℕ) → any ready s.processes ≡ true → gulp_refused s Busy ≡ ticks_event s n
+pub ticks_busy : (s : State) (n : ℕ) → any ready s.processes ≡ true → refused s Busy ≡ ticks_event s n
 unfolding ticks_event busy
 ticks_busy s n q = rw q
 
 pub ticks_take : (s : State) (n : ℕ) {k : ℕ} {ps : List Process} → any ready s.processes ≡ false → k ≡ ticks_reach n s.processes → ps ≡ map (ticks_on k) s.processes →
-    record { state = with_processes s ps; answer = Took (record { taken = k; recorded = 0 }) } ≡ ticks_event s n
+    record { state = with_processes s ps; answer = Ok (record { taken = k; recorded = 0 }) } ≡ ticks_event s n
 unfolding ticks_event busy
 ticks_take s n {k} {ps} q e f =
     rw (q, ticks_gulp_lem s n q)
@@ -103,23 +102,20 @@ module _ (pool : List ℕ) (h : Heads) where
 
   -- a byte that is taken
   byte_is_lem : (s : State) (x : ℕ) → ranges_right h s ≡ true → busy s ≡ false →
-      byte_event pool h s x ≡ answered_with (with_processes s (each (byte_taken pool) x s.processes)) (received.Took (record { count = times_recorded h s.paused x }))
-  unfolding ranges_right
-  byte_is_lem s x r q =
-      let few = leb h.omits omit_limit in
-      sym (byte_takes pool h s x (leb-true h.omits omit_limit (both_left few _ r)) (both_right few _ r) (not_busy s q))
+      byte_event pool h s x ≡ answered_with (with_processes s (each (byte_taken pool) x s.processes)) (Ok (record { count = times_recorded h s.paused x }))
+  byte_is_lem s x r q = sym (byte_takes pool h s x r (not_busy s q))
 
   one_byte : (s : State) (x : ℕ) (xs : List ℕ) (room : ℕ) (c : Copies) (rest : Gulping State) → ranges_right h s ≡ true → busy s ≡ false → 2 ≤ room →
-      (byte_event pool h s x).answer ≡ received.Took c → Bytes (byte_event pool h s x).state xs (room - c.count) rest →
+      (byte_event pool h s x).answer ≡ Ok c → Bytes (byte_event pool h s x).state xs (room - c.count) rest →
       more (replicate c.count x) rest ≡ taken s (x ∷ xs) room
   unfolding reach through room_for records_of busy
   one_byte s x xs room c rest right q l e r = rw (le-ltb room 2 l, copies) (go (any ready (each (byte_taken pool) x s.processes)) refl)
     where
       after : (byte_event pool h s x).state ≡ with_processes s (each (byte_taken pool) x s.processes)
-      after = ap (λ (z : ByteEvent). z.state) (byte_is_lem s x right q)
+      after = ap (λ (z : Event Copies). z.state) (byte_is_lem s x right q)
 
-      answered : received.Took c ≡ received.Took (record { count = times_recorded h s.paused x })
-      answered = sym e ∙ ap (λ (z : ByteEvent). z.answer) (byte_is_lem s x right q)
+      answered : ◌≡◌ {A = Received} (Ok c) (Ok (record { count = times_recorded h s.paused x }))
+      answered = sym e ∙ ap (λ (z : Event Copies). z.answer) (byte_is_lem s x right q)
 
       copies : c.count ≡ times_recorded h s.paused x
       copies = cc answered
@@ -145,27 +141,27 @@ module _ (pool : List ℕ) (h : Heads) where
       (λ z n. (λ u. refl, λ u v. refl))
       (λ z ys n u. (λ v. refl, λ v w. true_is_false (sym u ∙ w)))
       (λ z ys n l. (λ v. refl, λ v w. rw (room_stops h z.paused ys n l)))
-      (λ z x ys n r u e. (λ v. refl, λ v w. refused z x r (sym e ∙ ap (λ (y : ByteEvent). y.answer) (byte_is_lem z x v w))))
+      (λ z x ys n r u e. (λ v. refl, λ v w. other z x r (sym e ∙ ap (λ (y : Event Copies). y.answer) (byte_is_lem z x v w))))
       (λ z x ys n c rest u l e r. (λ v. true_is_false (sym v ∙ u), λ v w. one_byte z x ys n c rest v w l e r))
       s xs room q).1 right q
     where
-      refused : {A : Type 0} (z : State) (x : ℕ) (r : RunRefusal) {c : Copies} → received.Refused r ≡ received.Took c → A
-      refused z x r e = let n : ◌≡◌ {A = ℕ} 0 1 = cc in absurd (omega arith)
+      other : {A : Type 0} (z : State) (x : ℕ) (r : RunRefusal) {c : Copies} → ◌≡◌ {A = Received} (Err r) (Ok c) → A
+      other z x r e = let n : ◌≡◌ {A = ℕ} 0 1 = cc in absurd (omega arith)
 
   module _ (s : State) (xs : List ℕ) where
-    pub bytes_wrong : (out : List ℕ) → ranges_right h s ≡ false → (gulp_refused s BadTable ≡ bytes_event pool h s xs (length out)) × (out ≡ records_after pool h s xs out)
+    pub bytes_wrong : (out : List ℕ) → ranges_right h s ≡ false → (refused s BadTable ≡ bytes_event pool h s xs (length out)) × (out ≡ records_after pool h s xs out)
     unfolding bytes_event records_after bytes_records
     bytes_wrong out e = rw e (refl, refl)
 
     module _ (right : ranges_right h s ≡ true) where
-      pub bytes_busy : (out : List ℕ) → any ready s.processes ≡ true → (gulp_refused s Busy ≡ bytes_event pool h s xs (length out)) × (out ≡ records_after pool h s xs out)
+      pub bytes_busy : (out : List ℕ) → any ready s.processes ≡ true → (refused s Busy ≡ bytes_event pool h s xs (length out)) × (out ≡ records_after pool h s xs out)
       unfolding bytes_event records_after bytes_records busy
       bytes_busy out q = rw (right, q) (refl, refl)
 
       bytes_take : (out : List ℕ) {n k : ℕ} {ps : List Process} → any ready s.processes ≡ false →
           n ≡ reach_all pool (fitting s xs (length out)) s.processes → ps ≡ map (bytes_on pool (take n (fitting s xs (length out)))) s.processes →
           k ≡ length (records_of h s.paused (take n (fitting s xs (length out)))) →
-          (record { state = with_processes s ps; answer = Took (record { taken = n; recorded = k }) } ≡ bytes_event pool h s xs (length out))
+          (record { state = with_processes s ps; answer = Ok (record { taken = n; recorded = k }) } ≡ bytes_event pool h s xs (length out))
           × (sets out 0 (records_of h s.paused (take n (fitting s xs (length out)))) ≡ records_after pool h s xs out)
       unfolding bytes_event records_after bytes_records busy
       bytes_take out q e f g =
@@ -176,7 +172,7 @@ module _ (pool : List ℕ) (h : Heads) where
       pub bytes_took : (out : List ℕ) {m n k : ℕ} {fit part after : List ℕ} {ps : List Process} → any ready s.processes ≡ false → m ≡ room_for h s.paused xs (length out) →
           fit ≡ take m xs → n ≡ reach_all pool fit s.processes → ps ≡ map (bytes_on pool (take n fit)) s.processes → part ≡ take n fit →
           k ≡ length (records_of h s.paused part) → after ≡ sets out 0 (records_of h s.paused part) →
-          (record { state = with_processes s ps; answer = Took (record { taken = n; recorded = k }) } ≡ bytes_event pool h s xs (length out)) × (after ≡ records_after pool h s xs out)
+          (record { state = with_processes s ps; answer = Ok (record { taken = n; recorded = k }) } ≡ bytes_event pool h s xs (length out)) × (after ≡ records_after pool h s xs out)
       bytes_took out {n = n} q a b e f p g o =
           let fits = b ∙ ap (λ (i : ℕ). take i xs) a in
           let parts = p ∙ ap (take n) fits in
@@ -186,18 +182,7 @@ module _ (pool : List ℕ) (h : Heads) where
           in
           (r.0, o ∙ ap (λ (l : List ℕ). sets out 0 (records_of h s.paused l)) parts ∙ r.1)
 
--- ---- what the code tests
-
-module _ (h : Heads) (s : State) where
-  pub many_omits : omit_limit < h.omits → ranges_right h s ≡ false
-  unfolding ranges_right
-  many_omits l = rw (lt-leb h.omits omit_limit l)
-
-  module _ (l : h.omits ≤ omit_limit) where
-    pub ranges_wrong : all range_right s.processes ≡ false → ranges_right h s ≡ false
-    unfolding ranges_right
-    ranges_wrong e = rw (le-leb h.omits omit_limit l, e)
-
-    pub ranges_right_lem : all range_right s.processes ≡ true → ranges_right h s ≡ true
-    unfolding ranges_right
-    ranges_right_lem e = rw (le-leb h.omits omit_limit l, e)
+-- each data range lies within the pool
+pub ranges_all : (h : Heads) (s : State) → ranges_right h s ≡ true → all range_right s.processes ≡ true
+unfolding ranges_right
+ranges_all h s r = both_right (leb h.omits omit_limit) (all range_right s.processes) r

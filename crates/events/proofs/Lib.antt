@@ -1,3 +1,4 @@
+pub mod Eight
 pub mod EventCases
 pub mod Copying
 pub mod DataCases

@@ -16,7 +16,8 @@ use Rattle.process.specs.declared.Wait.{Wait}
 use Rattle.process.specs.declared.Wait.TheVariants.{Ready, Over, Ticks, Bytes, Data, ClockValue, Signal}
 use Rattle.process.specs.declared.Process.{Process}
 use Rattle.process.specs.declared.State.{State}
-use Rattle.process.specs.declared.ByteEvent.{ByteEvent}
+use Rattle.process.specs.declared.Copies.{Copies}
+use Rattle.process.specs.declared.Event.{Event}
 use Rattle.process.specs.Matching.{recent, advance}
 use Rattle.process.specs.Waiting.{awake, awaited, matched_to, matched_wait, byte_wait, byte_taken, progress_right, wait_right, range_right}
 use Rattle.process.specs.State.{busy, with_processes}
@@ -75,5 +76,5 @@ module _ (pool : List ℕ) (h : Heads) (s : State) (x : ℕ) where
   pub ranges_stay : ranges_right h s ≡ true → ranges_right h (byte_event pool h s x).state ≡ true
   unfolding byte_event
   ranges_stay r =
-      let Right : ByteEvent → Type 0 = λ e. ranges_right h e.state ≡ true in
+      let Right : Event Copies → Type 0 = λ e. ranges_right h e.state ≡ true in
       by_cases Right (ranges_right h s) _ _ (λ e. by_cases Right (busy s) _ _ (λ u. r) (λ u. taken_right r)) (λ e. r)

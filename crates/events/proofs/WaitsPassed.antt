@@ -2,14 +2,14 @@
 use mathlib.Core.Path.{◌≡◌, refl, sym, ap, ◌∙◌}
 use mathlib.Core.Bool.{Bool, true, false, cond}
 use mathlib.Core.List.{List, [], ◌∷◌}
-use Prim.Native.Nat.{ℕ, zero, suc, ◌-◌, ◌≤◌, ◌<◌}
+use Prim.Native.Nat.{ℕ, zero, suc, ◌-◌, ◌≤◌, ◌<◌, max}
 use native.Mathlib.Decide.{dec_lt}
 use native.Mathlib.Omega.{arith}
 use lib.Dec.{ltb, leb}
 use lib.ListN.{length, take, length-replicate}
 use borrow.Author.Tests.{le-leb, lt-leb, lt-ltb, le-ltb}
 use Rattle.process.specs.declared.Wait.{Wait}
-use Rattle.process.specs.declared.Wait.TheVariants.{Ready, Over, Ticks}
+use Rattle.process.specs.declared.Wait.TheVariants.{Ready, Over, Ticks, Bytes, Data, ClockValue, Signal}
 use Rattle.process.specs.Waiting.{ready_wait, awake, ticked_wait}
 use Rattle.events.specs.Inside.Passing.{through, reach, at_least1, tick_on, ticks_of}
 use Rattle.events.proofs.Reach.{stays_reach, stays_through}
@@ -23,6 +23,11 @@ pub least_other : (n : ℕ) → (n ≡ 0 → ⊥) → n ≡ at_least1 n
 unfolding at_least1
 least_other zero e = absurd (e refl)
 least_other (suc n) e = refl
+
+pub least_max : (n : ℕ) → max n 1 ≡ at_least1 n
+unfolding at_least1
+least_max zero = refl
+least_max (suc n) = omega arith
 
 pub least_over : (n k : ℕ) → k < at_least1 n → k ≤ n
 unfolding at_least1
@@ -94,6 +99,16 @@ module _ {X : Type 0} (g : X → Wait → Wait) (w : Wait) (stays : (x : X) → 
     down_far (suc (suc n)) (x ∷ xs) h = rw (step_on x n, waits (suc n)) (ap suc (down_far (suc n) xs (omega (arith, least_is n, least_is (suc n)))))
 
 -- ---- WAIT TIME
+
+-- a tick makes nothing of another wait
+pub ticks_past : (place end : ℕ) (w : Wait) → ((n : ℕ) → w ≡ Ticks n → ⊥) → tick_on place end 0 w ≡ w
+ticks_past place end Ready h = refl
+ticks_past place end Over h = refl
+ticks_past place end (Ticks n) h = absurd (h n refl)
+ticks_past place end (Bytes n) h = refl
+ticks_past place end (Data m) h = refl
+ticks_past place end (ClockValue c) h = refl
+ticks_past place end (Signal l) h = refl
 
 module _ (place end : ℕ) where
   awake_stays : (x : ℕ) → tick_on place end x (awake place end) ≡ awake place end

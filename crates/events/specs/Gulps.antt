@@ -1,18 +1,16 @@
 -- A WHOLE GULP AT ONCE. Document 02, No. 2: "Let one call take a run of bytes, or a number of ticks. It stops after the first that leaves a process ready,
 -- or when fewer than two places remain for recorded bytes, or before a later one that alone would be refused, and says how many it took; state and records
 -- equal those of single events. If a process is ready at the outset it takes none. Refusals: 21 for that case, after 25."
-use Rattle.std.specs.Prelude.{ℕ, zero, suc, ◌-◌, Bool, cond, List, [], ◌∷◌, ◌++◌, length, replicate, ltb}
+use Rattle.std.specs.Prelude.{ℕ, zero, suc, ◌-◌, Bool, cond, List, [], ◌∷◌, ◌++◌, length, replicate, ltb, Ok, Err}
 use Rattle.std.proofs.Math.Seq as seq
 use Rattle.language.specs.declared.Heads.{Heads}
 use Rattle.process.specs.declared.State.{State}
-use Rattle.process.specs.declared.RunRefusal.{RunRefusal}
 use Rattle.process.specs.declared.RunRefusal.TheVariants.{Busy, BadTable}
-use Rattle.process.specs.declared.Received.{Received}
-use Rattle.process.specs.declared.Received.TheVariants as received
-use Rattle.process.specs.declared.Gulped.TheVariants as gulped
-use Rattle.process.specs.declared.GulpEvent.{GulpEvent}
+use Rattle.process.specs.Answers.{Received}
+use Rattle.process.specs.declared.Gulp.{Gulp}
+use Rattle.process.specs.declared.Event.{Event}
 use Rattle.process.specs.State.{busy}
-use Rattle.events.specs.Events.{tick_event}
+use Rattle.events.specs.Events.{refused, tick_event}
 use Rattle.events.specs.Receiving.{ranges_right, byte_event}
 
 -- ---- single events one after the other, on boxes of any kind
@@ -33,13 +31,13 @@ more bs rest = record { box = rest.box; taken = suc rest.taken; records = bs ++ 
 
 -- how often a received byte is recorded, by its answer
 abbrev pub copies : Received → ℕ
-copies (received.Took c) = c.count
-copies (received.Refused r) = 0
+copies (Ok c) = c.count
+copies (Err r) = 0
 
 -- "or before a later one that alone would be refused"
 abbrev pub unless_refused : {B : Type 0} → B → ℕ → Received → Gulping B → Gulping B
-unless_refused b x (received.Took c) rest = more (replicate c.count x) rest
-unless_refused b x (received.Refused r) rest = stop b
+unless_refused b x (Ok c) rest = more (replicate c.count x) rest
+unless_refused b x (Err r) rest = stop b
 
 -- `ready` tells whether a process of a box is ready
 module _ {B : Type 0} (ready : B → Bool) where
@@ -70,22 +68,18 @@ ticks_gulp s n = ticks_from busy (λ z. (tick_event z).state) s n
 abbrev pub bytes_gulp : List ℕ → Heads → State → List ℕ → ℕ → Gulping State
 bytes_gulp pool h s run room = bytes_from busy (λ x z. (byte_event pool h z x).answer) (λ x z. (byte_event pool h z x).state) s run room
 
--- "A refusal alters no state"
-abbrev pub gulp_refused : State → RunRefusal → GulpEvent
-gulp_refused s r = record { state = s; answer = gulped.Refused r }
-
 -- "and says how many it took"
-abbrev pub gulp_took : Gulping State → GulpEvent
-gulp_took g = record { state = g.box; answer = gulped.Took (record { taken = g.taken; recorded = length g.records }) }
+abbrev pub gulp_took : Gulping State → Event Gulp
+gulp_took g = record { state = g.box; answer = Ok (record { taken = g.taken; recorded = length g.records }) }
 
 -- "If a process is ready at the outset it takes none": 21
-unfoldable pub ticks_event : State → ℕ → GulpEvent
-ticks_event s n = cond (busy s) (gulp_refused s Busy) (gulp_took (ticks_gulp s n))
+unfoldable pub ticks_event : State → ℕ → Event Gulp
+ticks_event s n = cond (busy s) (refused s Busy) (gulp_took (ticks_gulp s n))
 
 -- 25, by the tests of a received byte, then 21; both whatever the run and the room
-unfoldable pub bytes_event : List ℕ → Heads → State → List ℕ → ℕ → GulpEvent
+unfoldable pub bytes_event : List ℕ → Heads → State → List ℕ → ℕ → Event Gulp
 bytes_event pool h s run room =
-    cond (ranges_right h s) (cond (busy s) (gulp_refused s Busy) (gulp_took (bytes_gulp pool h s run room))) (gulp_refused s BadTable)
+    cond (ranges_right h s) (cond (busy s) (refused s Busy) (gulp_took (bytes_gulp pool h s run room))) (refused s BadTable)
 
 -- the recorded bytes; a refusal records none
 unfoldable pub bytes_records : List ℕ → Heads → State → List ℕ → ℕ → List ℕ

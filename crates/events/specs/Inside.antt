@@ -1,4 +1,5 @@
 -- What the private functions answer, as the code goes through it. Nothing here has to be believed.
+pub mod Each
 pub mod Links
 pub mod Kept
 pub mod Passing

@@ -1,164 +1,120 @@
 // A tick, a reading of the clock and a signal level, on the state.
 #![tactic(auto)]
 
-ghost use Rattle.std.specs.Prelude.{◌≡◌, map};
-ghost use Rattle.process.specs.Waiting.{ticked, reading_taken, level_taken};
+ghost use Rattle.std.specs.Prelude.{◌≡◌};
 ghost use Rattle.events.specs.Events.{refused, tick_event, reading_right, reading_event, level_event};
-ghost use Rattle.events.specs.Gulps.{gulp_refused, ticks_event};
+ghost use Rattle.events.specs.Gulps.{ticks_event};
 
-use crate::ticking::{all_ticks, least_ticks};
-use language::{Level, PROCESS_PLACES, SIGNALS};
+use crate::each::each;
+use crate::ticking::{least_ticks, ticks_passed};
+use language::{Level, SIGNALS};
 use process::taking::any_ready;
-use process::{Event, Gulp, GulpEvent, Gulped, Process, Reading, RunRefusal, State, Taken};
-use reader::widths::both;
+use process::{Event, Gulp, Reading, RunRefusal, State};
 
-// How many signals there are, as wide as the number of one.
-const COUNT: u8 = SIGNALS as u8;
-
+mod each;
 mod matching;
 mod passing;
 pub mod receiving;
 mod recording;
 mod ticking;
 
-fn all_ticked(ps: [Process; PROCESS_PLACES]) -> [Process; PROCESS_PLACES]
-    ensures { result ≡ map ticked ps }
-{
-    let mut next = ps;
-    for i in 0..PROCESS_PLACES {
-        let p = next[i];
-        next[i] = p.tick();
-    }
-    next
-}
-
-fn all_read(ps: [Process; PROCESS_PLACES], r: Reading) -> [Process; PROCESS_PLACES]
-    ensures { result ≡ map (reading_taken r) ps }
-{
-    let mut next = ps;
-    for i in 0..PROCESS_PLACES {
-        let p = next[i];
-        next[i] = p.read(r);
-    }
-    next
-}
-
-fn all_level(ps: [Process; PROCESS_PLACES], e: Level) -> [Process; PROCESS_PLACES]
-    ensures { result ≡ map (level_taken e) ps }
-{
-    let mut next = ps;
-    for i in 0..PROCESS_PLACES {
-        let p = next[i];
-        next[i] = p.level(e);
-    }
-    next
-}
-
-fn refuse(s: State, why: RunRefusal) -> Event
+// "A refusal alters no state".
+pub(crate) fn refuse<A>(s: State, why: RunRefusal) -> Event<A>
     ensures { result ≡ refused s why }
 {
     Event {
         state: s,
-        answer: Taken::Refused(why),
+        answer: Err(why),
     }
 }
 
 // A tick of 1 ms.
-pub fn tick(s: State) -> Event
+pub fn tick(s: State) -> Event<()>
     ensures { result ≡ tick_event s }
 {
-    let ps = s.processes;
-    if any_ready(ps) {
+    if any_ready(s.processes) {
         return refuse(s, RunRefusal::Busy);
     }
-    let mut t = s;
-    let next = all_ticked(ps);
-    t.processes = next;
+    let processes = each(s.processes, |p| p.tick());
     Event {
-        state: t,
-        answer: Taken::Took,
-    }
-}
-
-pub(crate) fn refuse_gulp(s: State, why: RunRefusal) -> GulpEvent
-    ensures { result ≡ gulp_refused s why }
-{
-    GulpEvent {
-        state: s,
-        answer: Gulped::Refused(why),
+        state: State { processes, ..s },
+        answer: Ok(()),
     }
 }
 
 // A number of ticks, up to the first that leaves a process ready.
-pub fn tick_run(s: State, count: u32) -> GulpEvent
+pub fn tick_run(s: State, count: u32) -> Event<Gulp>
     ensures { result ≡ ticks_event s count }
 {
-    let ps = s.processes;
-    if any_ready(ps) {
-        return refuse_gulp(s, RunRefusal::Busy);
+    if any_ready(s.processes) {
+        return refuse(s, RunRefusal::Busy);
     }
-    let n = least_ticks(ps, count);
-    let mut t = s;
-    let next = all_ticks(ps, n);
-    t.processes = next;
-    GulpEvent {
-        state: t,
-        answer: Gulped::Took(Gulp {
+    let n = least_ticks(&s.processes, count);
+    let processes = each(s.processes, |p| ticks_passed(p, n));
+    Event {
+        state: State { processes, ..s },
+        answer: Ok(Gulp {
             taken: n as usize,
             recorded: 0,
         }),
     }
 }
 
+#[tactic(auto, unfolding(crate::specs::Events::reading_right))]
 fn reading_right(r: Reading) -> bool
     ensures { result ≡ reading_right r }
 {
-    let date = both(r.month <= 12, both(1 <= r.day, r.day <= 31));
-    let hour = both(r.hour <= 23, both(r.minute <= 59, r.second <= 59));
-    both(both(r.year <= 99, both(1 <= r.month, date)), hour)
+    r.year <= 99
+        && 1 <= r.month
+        && r.month <= 12
+        && 1 <= r.day
+        && r.day <= 31
+        && r.hour <= 23
+        && r.minute <= 59
+        && r.second <= 59
 }
 
 // A reading of the clock.
-pub fn read_clock(s: State, r: Reading) -> Event
+pub fn read_clock(s: State, r: Reading) -> Event<()>
     ensures { result ≡ reading_event s r }
 {
-    let ps = s.processes;
-    if any_ready(ps) {
+    if any_ready(s.processes) {
         return refuse(s, RunRefusal::Busy);
     }
-    if reading_right(r) {
-        let mut t = s;
-        let next = all_read(ps, r);
-        t.processes = next;
-        t.reading = r;
-        return Event {
-            state: t,
-            answer: Taken::Took,
-        };
+    if !reading_right(r) {
+        return refuse(s, RunRefusal::BadReading);
     }
-    refuse(s, RunRefusal::BadReading)
+    let processes = each(s.processes, |p| p.read(r));
+    Event {
+        state: State {
+            processes,
+            reading: r,
+            ..s
+        },
+        answer: Ok(()),
+    }
 }
 
 // A level of a signal, 0 for CTS and 1 to 4 for EX.
-pub fn set_level(s: State, signal: u8, on: bool) -> Event
+pub fn set_level(s: State, signal: u8, on: bool) -> Event<()>
     ensures { result ≡ level_event s signal on }
 {
-    let ps = s.processes;
-    if any_ready(ps) {
+    if any_ready(s.processes) {
         return refuse(s, RunRefusal::Busy);
     }
-    if signal < COUNT {
-        let at = signal as usize;
-        let next = all_level(ps, Level { signal, on });
-        let mut levels = s.levels;
-        levels[at] = on;
-        let mut t = s;
-        t.processes = next;
-        t.levels = levels;
-        return Event {
-            state: t,
-            answer: Taken::Took,
-        };
+    let at = usize::from(signal);
+    if SIGNALS <= at {
+        return refuse(s, RunRefusal::NoSuchSignal);
     }
-    refuse(s, RunRefusal::NoSuchSignal)
+    let processes = each(s.processes, |p| p.level(Level { signal, on }));
+    let mut levels = s.levels;
+    levels[at] = on;
+    Event {
+        state: State {
+            processes,
+            levels,
+            ..s
+        },
+        answer: Ok(()),
+    }
 }

@@ -7,7 +7,6 @@ ghost use Rattle.events.specs.Inside.Kept.{Kept};
 ghost use Rattle.events.specs.Inside.Passing.{farther, matched_on, LinkedFor};
 
 use language::POOL_PLACES;
-use reader::widths::wide;
 
 // At each number of bytes matched, the number that still is where the next byte is another. At 0, which no mismatch reads, how many of them were made:
 // those of 0 and of 1 are 0, and need no making.
@@ -30,7 +29,7 @@ fn followed(want: &[u8], links: &[u16], k: usize, b: u8) -> usize
         if j == 0 {
             return 0;
         }
-        j = wide(links[j]);
+        j = usize::from(links[j]);
     }
     j + 1
 }
@@ -40,9 +39,10 @@ fn make_links(want: &[u8], k: usize, links: &mut [u16])
     requires { (k < length want.now) × (k < length links.old) × (k < pool_places) × Kept want.now links.old }
     ensures { Linked want.now links.new k × Kept want.now links.new }
 {
-    let mut i = wide(links[0]) + 1;
+    let mut i = usize::from(links[0]) + 1;
+    // Kept by hand: the loop goes on from where the table ended, and tells at 0 how far it came.
     while i < k {
-        let j = wide(links[i]);
+        let j = usize::from(links[i]);
         let n = followed(want, &links[..], j, want[i]);
         i += 1;
         links[i] = n as u16;
@@ -83,15 +83,14 @@ fn unlinked(want: &[u8], from: usize, run: &[u8]) -> Matched
         × (result.matched ≤ length want.now) × (result.count ≤ length run.now) }
 {
     let mut k = from;
-    let mut i = 0;
-    while i < run.len() {
+    for (i, b) in run.iter().enumerate() {
         if k == want.len() {
             return Matched {
                 matched: k,
                 count: i,
             };
         }
-        if want[k] == run[i] {
+        if want[k] == *b {
             k += 1;
         } else if k != 0 {
             return Matched {
@@ -99,11 +98,10 @@ fn unlinked(want: &[u8], from: usize, run: &[u8]) -> Matched
                 count: i,
             };
         }
-        i += 1;
     }
     Matched {
         matched: k,
-        count: i,
+        count: run.len(),
     }
 }
 
@@ -114,20 +112,18 @@ fn through_links(want: &[u8], links: &[u16], from: usize, run: &[u8]) -> Matched
     ensures { result ≡ matched_on want.now from run.now }
 {
     let mut k = from;
-    let mut i = 0;
-    while i < run.len() {
+    for (i, b) in run.iter().enumerate() {
         if k == want.len() {
             return Matched {
                 matched: k,
                 count: i,
             };
         }
-        k = followed(want, links, k, run[i]);
-        i += 1;
+        k = followed(want, links, k, *b);
     }
     Matched {
         matched: k,
-        count: i,
+        count: run.len(),
     }
 }
 

@@ -1,17 +1,16 @@
 // A run of bytes on the waits: how many are taken up to the first that leaves a process ready, and what they make of each wait.
 ghost use Rattle.std.specs.Prelude.{◌≡◌, true, false, map, ◌≤◌, length, take};
 ghost use Rattle.process.specs.declared.Wait.TheVariants.{Bytes, Data};
-ghost use Rattle.process.specs.Waiting.{ready_wait, ready, awaited, progress_right, wait_right, range_right};
+ghost use Rattle.process.specs.Waiting.{ready, awaited, progress_right, range_right};
 ghost use Rattle.process.specs.State.{any};
 ghost use Rattle.reader.specs.Bytes.{all};
 ghost use Rattle.events.specs.Inside.Kept.{Kept, data_of, places_for, KeptFrom};
-ghost use Rattle.events.specs.Inside.Passing.{at_least1, passed_by, ended_at, reach_all, bytes_on, Passes};
+ghost use Rattle.events.specs.Inside.Passing.{passed_by, ended_at, reach_all, bytes_on, Passes};
 
 use crate::matching::{Links, matched_run};
 use crate::receiving::awaited_data;
 use language::{POOL_PLACES, PROCESS_PLACES, Pool};
 use process::{Process, Progress, Wait};
-use reader::widths::wide;
 
 // A wait after some bytes, and how many they were.
 #[derive(Clone, Copy)]
@@ -37,10 +36,10 @@ pub(crate) fn first(run: &[u8], n: usize) -> &[u8]
 }
 
 // A wait that ends at the n-th of a run of bytes: the run ends there where its process is ready, and goes on where it is over.
-fn ended(n: usize, all: usize, place: u16, end: u16) -> Passed
-    ensures { result ≡ ended_at n all place end }
+fn ended(n: usize, all: usize, p: Process) -> Passed
+    ensures { result ≡ ended_at n all p.place p.end }
 {
-    if place < end {
+    if p.place < p.end {
         Passed {
             wait: Wait::Ready,
             count: n,
@@ -53,85 +52,64 @@ fn ended(n: usize, all: usize, place: u16, end: u16) -> Passed
     }
 }
 
-// The byte that a wait for n ends at: one for none ends at the first, as one for one does.
-fn last_byte(n: usize) -> usize
-    ensures { result ≡ at_least1 n }
-{
-    if n == 0 { 1 } else { n }
-}
-
-// "WAIT BYTE likewise for bytes".
-fn bytes_passed(n: u16, pool: &Pool, run: &[u8], place: u16, end: u16) -> Passed
-    ensures { result ≡ passed_by pool.now place end run.now (Bytes n) }
+// "WAIT BYTE likewise for bytes". A wait for none ends at the first byte, as one for one does.
+fn bytes_passed(n: u16, p: Process, pool: &Pool, run: &[u8]) -> Passed
+    ensures { result ≡ passed_by pool.now p.place p.end run.now (Bytes n) }
 {
     let all = run.len();
-    let left = wide(n);
-    let last = last_byte(left);
+    let left = usize::from(n);
+    let last = left.max(1);
     if all < last {
         return Passed {
             wait: Wait::Bytes((left - all) as u16),
             count: all,
         };
     }
-    ended(last, all, place, end)
+    ended(last, all, p)
 }
 
-fn data_passed(
-    m: Progress,
-    pool: &Pool,
-    run: &[u8],
-    place: u16,
-    end: u16,
-    kept: &mut [u16],
-) -> Passed
+fn data_passed(m: Progress, p: Process, pool: &Pool, run: &[u8], kept: &mut [u16]) -> Passed
     requires { (progress_right m ≡ true) × Kept (awaited pool.now m) kept.old }
-    ensures { (result ≡ passed_by pool.now place end run.now (Data m))
+    ensures { (result ≡ passed_by pool.now p.place p.end run.now (Data m))
         × Kept (awaited pool.now m) kept.new }
 {
     let want = awaited_data(pool, m);
-    let r = matched_run(want, wide(m.matched), run, kept);
+    let r = matched_run(want, usize::from(m.matched), run, kept);
     if r.matched == want.len() {
-        return ended(r.count, run.len(), place, end);
+        return ended(r.count, run.len(), p);
     }
     Passed {
         wait: Wait::Data(Progress {
-            from: m.from,
-            count: m.count,
             matched: r.matched as u16,
+            ..m
         }),
         count: run.len(),
     }
 }
 
-fn wait_passed(w: Wait, pool: &Pool, run: &[u8], place: u16, end: u16, kept: &mut [u16]) -> Passed
-    requires { (wait_right w ≡ true) × (ready_wait w ≡ false) × Kept (data_of pool.now w) kept.old }
-    ensures { (result ≡ passed_by pool.now place end run.now w)
-        × Kept (data_of pool.now w) kept.new }
+fn wait_passed(p: Process, pool: &Pool, run: &[u8], kept: &mut [u16]) -> Passed
+    requires { (range_right p ≡ true) × (ready p ≡ false) × Kept (data_of pool.now p.wait) kept.old }
+    ensures { (result ≡ passed_by pool.now p.place p.end run.now p.wait)
+        × Kept (data_of pool.now p.wait) kept.new }
 {
-    match w {
-        Wait::Bytes(n) => bytes_passed(n, pool, run, place, end),
-        Wait::Data(m) => data_passed(m, pool, run, place, end, kept),
-        _ => Passed {
-            wait: w,
+    match p.wait {
+        Wait::Bytes(n) => bytes_passed(n, p, pool, run),
+        Wait::Data(m) => data_passed(m, p, pool, run, kept),
+        wait => Passed {
+            wait,
             count: run.len(),
         },
     }
 }
 
-// As many places as the data of WAIT DATA have bytes; none where so many are not left, as in no accepted table.
-fn links_places(m: Progress, left: usize) -> usize
-    ensures { result ≡ places_for (Data m) left }
-{
-    let n = wide(m.count);
-    if left < n { 0 } else { n }
-}
-
-// The places for the links of a wait, of those that are left.
+// The places for the links of a wait, of those that are left: as many as the data of WAIT DATA have bytes; none where so many are not left, as in no
+// accepted table.
+#[tactic(auto, unfolding(crate::specs::Inside::Kept::places_for))]
 fn places_for(w: Wait, left: usize) -> usize
     ensures { result ≡ places_for w left }
 {
     match w {
-        Wait::Data(m) => links_places(m, left),
+        Wait::Data(m) if usize::from(m.count) <= left => usize::from(m.count),
         _ => 0,
     }
 }
@@ -148,16 +126,14 @@ fn pass_each(ps: [Process; PROCESS_PLACES], pool: &Pool, run: &[u8], links: &mut
     let mut from = 0;
     for i in 0..PROCESS_PLACES {
         let p = ps[i];
-        let w = p.wait;
-        let to = from + places_for(w, links.len() - from);
-        let r = wait_passed(w, pool, first(run, n), p.place, p.end, &mut links[from..to]);
+        let to = from + places_for(p.wait, links.len() - from);
+        let r = wait_passed(p, pool, first(run, n), &mut links[from..to]);
         if r.count < n {
             again = 0 < i;
         }
         n = r.count;
         from = to;
-        let after = r.wait;
-        next[i] = p.with(after);
+        next[i] = p.with(r.wait);
     }
     Pass {
         processes: next,

@@ -1,4 +1,5 @@
-// How often a received byte is recorded, and the records of a run of bytes.
+// How often a received byte is recorded, and the records of a run of bytes. The loops count by hand: as iterators (`take`, `any`, `enumerate`) they proved,
+// but miss the bar of speed, a gulp of 256 bytes without ENCODE or OMIT 1,309 instructions, then 7,419: no longer one copy of the block.
 ghost use Rattle.std.specs.Prelude.{◌≡◌, ◌+◌, ◌≤◌, length, take, replicate};
 ghost use Rattle.std.proofs.Math.Seq as seq;
 ghost use Rattle.events.specs.Recording.{one_of, times_recorded};

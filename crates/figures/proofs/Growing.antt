@@ -59,5 +59,4 @@ cut_run k (keeps {x = sure} c) = omega (arith, cut_run 0 c)
 cut_run k (keeps {x = cut} c) = le_refl k
 
 pub longest_grows : (m n : ℕ) → m ≤ n → (p : Fragment) → longest_run (written m p) ≤ longest_run (written n p)
-unfolding longest_run
 longest_grows m n h p = cut_run 0 (cut_written m n h p)

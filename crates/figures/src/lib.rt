@@ -2,14 +2,14 @@
 #![tactic(auto)]
 
 ghost use Rattle.std.specs.Prelude.{◌≡◌};
-ghost use Rattle.figures.specs.Figures.{capped, joined_capped, one_statement, one_rest, empty, never, copies_capped, looped};
+ghost use Rattle.figures.specs.Figures.{capped, joined_capped, one_statement, one_rest, empty, copies_capped, looped};
 
-use crate::runs::{OVER, choose, either, held, larger, meet, product};
+use crate::runs::{OVER, held, meet, product};
 
 pub mod runs;
 
-/// Whether a fragment rests, whether it ever ends, and its first, last and longest runs.
-#[derive(Clone, Copy)]
+/// Whether a fragment rests, whether it ever ends, and its first, last and longest runs; the default never ends and has no run.
+#[derive(Clone, Copy, PartialEq, Eq, Debug, Default)]
 pub struct Figures {
     /// Whether a sure rest is reached.
     pub rests: bool,
@@ -29,11 +29,10 @@ impl Figures {
         ensures { result ≡ one_statement }
     {
         Figures {
-            rests: false,
-            ends: true,
             first: 1,
             last: 1,
             longest: 1,
+            ..Figures::nothing()
         }
     }
 
@@ -43,10 +42,7 @@ impl Figures {
     {
         Figures {
             rests: true,
-            ends: true,
-            first: 0,
-            last: 0,
-            longest: 0,
+            ..Figures::nothing()
         }
     }
 
@@ -55,24 +51,8 @@ impl Figures {
         ensures { result ≡ empty }
     {
         Figures {
-            rests: false,
             ends: true,
-            first: 0,
-            last: 0,
-            longest: 0,
-        }
-    }
-
-    // The figures of what stands after the passes of a forever loop.
-    fn endless() -> Figures
-        ensures { result ≡ never }
-    {
-        Figures {
-            rests: false,
-            ends: false,
-            first: 0,
-            last: 0,
-            longest: 0,
+            ..Figures::default()
         }
     }
 
@@ -81,11 +61,10 @@ impl Figures {
         ensures { result ≡ capped self }
     {
         Figures {
-            rests: self.rests,
-            ends: self.ends,
             first: held(self.first),
             last: held(self.last),
             longest: held(self.longest),
+            ..self
         }
     }
 
@@ -93,19 +72,21 @@ impl Figures {
     pub fn join(self, next: Figures) -> Figures
         ensures { result ≡ joined_capped self next }
     {
-        let ends = self.ends;
-        if ends {
-            let last = choose(self.rests, self.last, self.first);
-            let seam = meet(last, next.first);
-            Figures {
-                rests: either(self.rests, next.rests),
-                ends: next.ends,
-                first: choose(self.rests, held(self.first), meet(self.first, next.first)),
-                last: choose(next.rests, held(next.last), seam),
-                longest: larger(larger(held(self.longest), held(next.longest)), seam),
-            }
-        } else {
-            self.hold()
+        if !self.ends {
+            return self.hold();
+        }
+        let last = if self.rests { self.last } else { self.first };
+        let seam = meet(last, next.first);
+        Figures {
+            rests: self.rests || next.rests,
+            ends: next.ends,
+            first: if self.rests {
+                held(self.first)
+            } else {
+                meet(self.first, next.first)
+            },
+            last: if next.rests { held(next.last) } else { seam },
+            longest: held(self.longest).max(held(next.longest)).max(seam),
         }
     }
 
@@ -116,30 +97,23 @@ impl Figures {
         if n == 0 {
             return Figures::nothing();
         }
-        let ends = self.ends;
-        if ends {
-            let rests = self.rests;
-            if rests {
-                let seam = meet(self.last, choose(n == 1, 0, self.first));
-                Figures {
-                    rests,
-                    ends,
-                    first: held(self.first),
-                    last: held(self.last),
-                    longest: larger(held(self.longest), seam),
-                }
-            } else {
-                let all = product(n, self.first);
-                Figures {
-                    rests,
-                    ends,
-                    first: all,
-                    last: all,
-                    longest: larger(held(self.longest), all),
-                }
-            }
-        } else {
-            self.hold()
+        if !self.ends {
+            return self.hold();
+        }
+        if self.rests {
+            let seam = meet(self.last, if n == 1 { 0 } else { self.first });
+            let held = self.hold();
+            return Figures {
+                longest: held.longest.max(seam),
+                ..held
+            };
+        }
+        let all = product(n, self.first);
+        Figures {
+            first: all,
+            last: all,
+            longest: held(self.longest).max(all),
+            ..self
         }
     }
 
@@ -149,7 +123,8 @@ impl Figures {
     {
         let pass = self.join(Figures::plain());
         if n == 0 {
-            pass.repeat(OVER).join(Figures::endless())
+            // Nothing counts after a forever loop: the default never ends.
+            pass.repeat(OVER).join(Figures::default())
         } else {
             pass.repeat(n)
         }

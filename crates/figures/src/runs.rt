@@ -1,5 +1,5 @@
 // Runs, capped at 4,097 so that no sum and no product of them wraps.
-ghost use Rattle.std.specs.Prelude.{◌≡◌, cond, ◌||◌, ◌+◌, ◌*◌, max};
+ghost use Rattle.std.specs.Prelude.{◌≡◌, ◌+◌, ◌*◌};
 ghost use Rattle.figures.specs.Cap.{cap};
 
 /// The longest stretch that a process may have.
@@ -11,7 +11,7 @@ pub const OVER: u32 = LIMIT + 1;
 pub(crate) fn held(x: u32) -> u32
     ensures { result ≡ cap x }
 {
-    if x < OVER { x } else { OVER }
+    x.min(OVER)
 }
 
 /// The capped run of two runs that meet.
@@ -26,25 +26,4 @@ pub(crate) fn product(n: u32, x: u32) -> u32
     ensures { result ≡ cap (n * x) }
 {
     held(held(n) * held(x))
-}
-
-/// The larger of two runs.
-pub(crate) fn larger(x: u32, y: u32) -> u32
-    ensures { result ≡ max x y }
-{
-    if x < y { y } else { x }
-}
-
-/// The run x if t holds, else y.
-pub(crate) fn choose(t: bool, x: u32, y: u32) -> u32
-    ensures { result ≡ cond t x y }
-{
-    if t { x } else { y }
-}
-
-/// Whether one of the two holds.
-pub(crate) fn either(s: bool, t: bool) -> bool
-    ensures { result ≡ (s || t) }
-{
-    if s { true } else { t }
 }

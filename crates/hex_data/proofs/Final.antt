@@ -1,4 +1,5 @@
 -- A refusal inside some bytes of hex data is final: what comes after them does not matter. Assumes nothing.
+use Rattle.std.specs.Prelude.{Err}
 use Prim.Native.Nat.{ℕ, ◌+◌, ◌*◌, ◌<◌}
 use mathlib.Core.Path.{◌≡◌}
 use mathlib.Core.List.{List, [], ◌∷◌, ◌++◌}
@@ -7,23 +8,23 @@ use native.Mathlib.Omega.{arith}
 use lib.Dec.{ltb}
 use lib.ListN.{length}
 use Rattle.reader.specs.Bytes.{digit_of}
-use Rattle.numbers.specs.declared.Number.TheVariants.{Value, Bad}
+use Rattle.numbers.specs.Number.{value_at}
 use Rattle.numbers.proofs.Final.{kept, same}
 use Rattle.hex_data.specs.Hex.{Said, good, bad, step_of, byte_before, after_step, hex_go, hex_second, hex_byte_of}
-use Rattle.hex_data.specs.declared.HexStep.{HexStep}
-use Rattle.hex_data.specs.declared.HexStep.TheVariants.{Refuse, Skip, First, Whole}
+use Rattle.hex_data.specs.Hex.{HexStep}
+use Rattle.hex_data.specs.Hex.{Refuse, Skip, First, Whole}
 
 -- a first digit is there, so that the byte is not refused
-hex_second_good : (h : ℕ) (l : List ℕ) (at k : ℕ) → hex_second h l at ≡ Bad k → ⊥
+hex_second_good : (h : ℕ) (l : List ℕ) (at k : ℕ) → hex_second h l at ≡ Err k → ⊥
 unfolding hex_second
 hex_second_good h [] at k e = let z : ◌≡◌ {A = ℕ} 0 1 = cc in omega arith
 hex_second_good h (b ∷ rest) at k e = go (ltb (digit_of b) 16) e
   where
-    go : (t : Bool) → cond t (Value (h * 16 + digit_of b) (at + 1)) (Value h at) ≡ Bad k → ⊥
+    go : (t : Bool) → cond t (value_at (h * 16 + digit_of b) (at + 1)) (value_at h at) ≡ Err k → ⊥
     go true e = let z : ◌≡◌ {A = ℕ} 0 1 = cc in omega arith
     go false e = let z : ◌≡◌ {A = ℕ} 0 1 = cc in omega arith
 
-pub hex_byte_final : (xs ys : List ℕ) (at k : ℕ) → k < at + length xs → hex_byte_of xs at ≡ Bad k → hex_byte_of (xs ++ ys) at ≡ Bad k
+pub hex_byte_final : (xs ys : List ℕ) (at k : ℕ) → k < at + length xs → hex_byte_of xs at ≡ Err k → hex_byte_of (xs ++ ys) at ≡ Err k
 unfolding hex_byte_of
 hex_byte_final [] ys at k h e = let p : at ≡ k = cc in absurd (omega arith)
 hex_byte_final (a ∷ rest) ys at k h e =

@@ -1,5 +1,6 @@
 -- THE FIRST BYTE THAT HEX DATA CANNOT TAKE, and that of one byte in hex. With it no ending makes hex data; what stands before it can be
 -- ended. Assumes nothing.
+use Rattle.std.specs.Prelude.{Ok, Err}
 use Prim.Native.Nat.{ℕ, suc, ◌+◌, ◌*◌}
 use mathlib.Core.Path.{◌≡◌, refl, sym, ◌∙◌}
 use mathlib.Core.Bool.{Bool, true, false, cond}
@@ -11,12 +12,11 @@ use Rattle.reader.specs.Bytes.{digit_of, is_byte, in_line}
 use Rattle.reader.specs.FirstBad.{CanEnd, FirstBad}
 use Rattle.reader.proofs.FirstBad.{bad_end, bad_here, bad_next, bad_as, none_bad}
 use Rattle.reader.proofs.Tests.{true_is_false}
-use Rattle.numbers.specs.declared.Number.{Number}
-use Rattle.numbers.specs.declared.Number.TheVariants.{Value, Bad}
+use Rattle.numbers.specs.Number.{NumberRead, value_at}
 use Rattle.hex_data.specs.Hex.{Said, good, bad, step_of, byte_before, after_step, hex_go, hex_at, said_place, is_good, hex_second, hex_byte_of, hex_byte_at, byte_place, is_byte_read}
 use Rattle.hex_data.specs.Inside.Said.{moved_said}
-use Rattle.hex_data.specs.declared.HexStep.{HexStep}
-use Rattle.hex_data.specs.declared.HexStep.TheVariants.{Refuse, Skip, First, Whole}
+use Rattle.hex_data.specs.Hex.{HexStep}
+use Rattle.hex_data.specs.Hex.{Refuse, Skip, First, Whole}
 use Rattle.hex_data.proofs.Moved.{hex_moved}
 
 -- ---- hex data
@@ -122,21 +122,21 @@ unfolding hex_second
 second_read h [] at = refl
 second_read h (b ∷ l) at = case (ltb (digit_of b) 16)
   where
-    case : (t : Bool) → is_byte_read (cond t (Value (h * 16 + digit_of b) (at + 1)) (Value h at)) ≡ true
+    case : (t : Bool) → is_byte_read (cond t (value_at (h * 16 + digit_of b) (at + 1)) (value_at h at)) ≡ true
     case true = refl
     case false = refl
 
-read_place : (end : ℕ) (x : Number) → is_byte_read x ≡ true → byte_place end x ≡ end
+read_place : (end : ℕ) (x : NumberRead) → is_byte_read x ≡ true → byte_place end x ≡ end
 unfolding byte_place
-read_place end (Value b next) e = refl
-read_place end (Bad at) e = true_is_false (sym e)
+read_place end (Ok n) e = refl
+read_place end (Err at) e = true_is_false (sym e)
 
 -- the first digit decides
 pub byte_by_first : (b : ℕ) (l : List ℕ) → is_byte_read (hex_byte_of (b ∷ l) 0) ≡ ltb (digit_of b) 16
 unfolding hex_byte_of
 byte_by_first b l = case (ltb (digit_of b) 16)
   where
-    case : (t : Bool) → is_byte_read (cond t (hex_second (digit_of b) l 1) (Bad 0)) ≡ t
+    case : (t : Bool) → is_byte_read (cond t (hex_second (digit_of b) l 1) (Err 0)) ≡ t
     case true = second_read (digit_of b) l 1
     case false = refl
 

@@ -4,5 +4,5 @@ pub mod Final
 pub mod Runs
 pub mod HexPlace
 -- the states of the loops
-pub mod Pairs
+pub mod Next
 pub mod Stepping

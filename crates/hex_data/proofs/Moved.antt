@@ -6,17 +6,17 @@ use lib.Dec.{ltb}
 use lib.ListN.{drop}
 use Rattle.reader.specs.Bytes.{digit_of}
 use Rattle.numbers.specs.Inside.Moved.{moved_on}
-use Rattle.numbers.specs.declared.Number.TheVariants.{Value}
+use Rattle.numbers.specs.Number.{value_at}
 use Rattle.numbers.proofs.Moved.{both_moved, next, from_zero_lem}
 use Rattle.hex_data.specs.Hex.{Said, good, bad, step_of, byte_before, after_step, hex_go, hex_at, hex_second, hex_byte_of, hex_byte_at}
 use Rattle.hex_data.specs.Inside.Said.{moved_said}
-use Rattle.hex_data.specs.declared.HexStep.{HexStep}
-use Rattle.hex_data.specs.declared.HexStep.TheVariants.{Refuse, Skip, First, Whole}
+use Rattle.hex_data.specs.Hex.{HexStep}
+use Rattle.hex_data.specs.Hex.{Refuse, Skip, First, Whole}
 
 hex_second_moved : (h : ℕ) (l : List ℕ) (k at : ℕ) → hex_second h l (k + at) ≡ moved_on k (hex_second h l at)
 unfolding hex_second moved_on
 hex_second_moved h [] k at = refl
-hex_second_moved h (b ∷ rest) k at = both_moved (moved_on k) (ltb (digit_of b) 16) (ap (Value (h * 16 + digit_of b)) (next k at)) refl
+hex_second_moved h (b ∷ rest) k at = both_moved (moved_on k) (ltb (digit_of b) 16) (ap (value_at (h * 16 + digit_of b)) (next k at)) refl
 
 pub hex_byte_moved : (l : List ℕ) (k at : ℕ) → hex_byte_of l (k + at) ≡ moved_on k (hex_byte_of l at)
 unfolding hex_byte_of moved_on

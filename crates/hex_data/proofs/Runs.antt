@@ -11,7 +11,7 @@ use borrow.Author.Tests.{lt-ltb, eqb-true}
 use Rattle.reader.specs.Bytes.{digit_of, is_blank}
 use Rattle.reader.proofs.Tests.{Every}
 use Rattle.hex_data.specs.Hex.{Said, good, step_of, byte_before, hex_go, hex_at}
-use Rattle.hex_data.specs.declared.HexStep.TheVariants.{Skip, First, Whole}
+use Rattle.hex_data.specs.Hex.{Skip, First, Whole}
 
 -- a run
 abbrev pub Digits : List ℕ → Type 0
@@ -30,11 +30,11 @@ bytes_before (b ∷ bs) x = byte_before b (bytes_before bs x)
 
 -- ---- what a digit and a separator do
 
-first : (a : ℕ) → digit_of a < 16 → step_of 16 a ≡ First (digit_of a)
+pub first : (a : ℕ) → digit_of a < 16 → step_of 16 a ≡ First (digit_of a)
 unfolding step_of
 first a h = rw (lt-ltb (digit_of a) 16 h)
 
-second : (half a : ℕ) → half < 16 → digit_of a < 16 → step_of half a ≡ Whole (half * 16 + digit_of a)
+pub second : (half a : ℕ) → half < 16 → digit_of a < 16 → step_of half a ≡ Whole (half * 16 + digit_of a)
 unfolding step_of
 second half a k h = rw (lt-ltb (digit_of a) 16 h, lt-ltb half 16 k)
 
@@ -47,7 +47,7 @@ blank_is P b h p q = go (eqb b 32) refl h
     go true e r = rw (eqb-true b 32 e) p
     go false e r = rw (eqb-true b 9 r) q
 
-parts : (b : ℕ) → is_blank b ≡ true → step_of 16 b ≡ Skip
+pub parts : (b : ℕ) → is_blank b ≡ true → step_of 16 b ≡ Skip
 unfolding step_of is_blank digit_of
 parts b h = blank_is (λ (c : ℕ). step_of 16 c ≡ Skip) b h refl refl
 

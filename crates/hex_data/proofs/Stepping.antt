@@ -1,87 +1,56 @@
--- The loops over hex data: the definition at the bytes left, the state of each loop, and one law for each way on. Assumes nothing.
+-- The loops over hex data: the state of each loop, and one law for each way on. Assumes nothing.
 use Prim.Native.Nat.{ℕ, ◌+◌, ◌≤◌, ◌<◌}
+use Rattle.std.specs.Prelude.{Ok, Err}
 use mathlib.Core.Path.{◌≡◌, refl, sym, ap, ◌∙◌}
-use mathlib.Core.Bool.{Bool, true, false, cond}
+use mathlib.Core.Bool.{Bool, true, false}
 use mathlib.Core.List.{List, [], ◌∷◌}
 use native.Mathlib.Nat.{add-zero}
-use native.Mathlib.Numerals.{add-one}
 use native.Mathlib.Omega.{arith}
-use lib.Dec.{ltb, leb}
-use lib.ListN.{length, drop, get_or, set, drop_of_length-le}
-use lib.Seq.{drop-cons, sets}
-use borrow.Author.Tests.{lt-ltb, le-ltb}
-use Rattle.hex_data.specs.Hex.{Said, step_of, byte_before, after_step, hex_go, hex_at, counted, hex_into, hex_put, good, bad}
+use lib.Dec.{leb}
+use lib.ListN.{length, set}
+use lib.Seq.{sets}
+use Rattle.hex_data.specs.Hex.{Said, byte_before, hex_at, counted, hex_into, hex_put, good, bad}
 use Rattle.hex_data.specs.Inside.Said.{said_bytes}
-use Rattle.hex_data.specs.declared.HexStep.{HexStep}
-use Rattle.hex_data.specs.declared.HexStep.TheVariants.{Refuse, Skip, First, Whole}
-use Rattle.hex_data.specs.declared.HexCount.TheVariants.{Of, Not}
-use Rattle.hex_data.specs.declared.HexRead.TheVariants.{Bytes, Wrong, Full}
+use Rattle.numbers.specs.declared.Number.{Number}
+use Rattle.hex_data.specs.Inside.Next.{Before}
+use Rattle.hex_data.specs.declared.HexFault.TheVariants.{Wrong, Full}
 use Rattle.reader.proofs.Placing.{Placing, begun, renamed, fits, stored, placed}
 
-hex_end : (s : List ℕ) (half i : ℕ) → length s ≤ i → hex_go (drop i s) half i ≡ good (cond (ltb half 16) (half ∷ []) [])
-unfolding hex_go
-hex_end s half i h = rw (drop_of_length-le s h)
+-- ---- the count of the whole is the count of the data from `from` on, on top of `n`
 
--- `st` is the step that the code has found at the place `i`
-hex_on : (s : List ℕ) (half i : ℕ) (st : HexStep) → i < length s → st ≡ step_of half (get_or s i 0)
-    → hex_go (drop i s) half i ≡ after_step i st (hex_go (drop (i + 1) s) 16 (i + 1)) (λ h. hex_go (drop (i + 1) s) h (i + 1))
-unfolding hex_go
-hex_on s half i st h is = rw (add-one i, drop-cons s i 0) (simp (is, add-one))
+pub record Counting (s : List ℕ) (at n from : ℕ) : Type 0 where
+  pub few : n ≤ from
+  pub whole : counted 0 (hex_at s at) ≡ counted n (hex_at s from)
 
--- ---- the count of the whole is the count of the bytes from `i` on, after `half`, on top of `n`
-
-pub record Counting (s : List ℕ) (at n half i : ℕ) : Type 0 where
-  pub few : n ≤ i
-  pub digit : half < 16 → n < length s
-  pub whole : counted 0 (hex_at s at) ≡ counted n (hex_go (drop i s) half i)
-
-pub uncounted : {s : List ℕ} {at : ℕ} → Counting s at 0 16 at
-unfolding hex_at
-uncounted = record { few = omega arith; digit = λ h. absurd (omega arith); whole = refl }
+pub uncounted : {s : List ℕ} {at : ℕ} → Counting s at 0 at
+uncounted = record { few = omega arith; whole = refl }
 
 -- a byte in front is one more
 counted_before : (n b : ℕ) (x : Said) → counted n (byte_before b x) ≡ counted (n + 1) x
 unfolding counted byte_before
-counted_before n b (good bs) = ap Of (omega arith)
+counted_before n b (good bs) = ap Ok (omega arith)
 counted_before n b (bad at) = refl
 
-module _ {s : List ℕ} {at n half i : ℕ} (w : Counting s at n half i) where
-  -- the data end after one digit of a pair, or after a whole byte
-  pub odd_end : length s ≤ i → half < 16 → counted 0 (hex_at s at) ≡ Of (n + 1)
+module _ {s : List ℕ} {at n from : ℕ} (w : Counting s at n from) where
+  pub all_counted : hex_at s from ≡ good [] → Ok n ≡ counted 0 (hex_at s at)
   unfolding counted
-  odd_end h k = w.whole ∙ ap (counted n) (hex_end s half i h) ∙ simp (lt-ltb _ _ k)
+  all_counted e = sym (w.whole ∙ ap (counted n) e ∙ ap Ok (add-zero n))
 
-  pub even_end : length s ≤ i → 16 ≤ half → counted 0 (hex_at s at) ≡ Of n
+  pub refused : {e : ℕ} → hex_at s from ≡ bad e → Err e ≡ counted 0 (hex_at s at)
   unfolding counted
-  even_end h k = w.whole ∙ ap (counted n) (hex_end s half i h) ∙ simp (le-ltb _ _ k, add-zero)
+  refused e = sym (w.whole ∙ ap (counted n) e)
 
-  -- the count from the step `st` on
-  module _ {st : HexStep} (inside : i < length s) (is : st ≡ step_of half (get_or s i 0)) where
-    from_step : counted 0 (hex_at s at) ≡ counted n (after_step i st (hex_go (drop (i + 1) s) 16 (i + 1)) (λ h. hex_go (drop (i + 1) s) h (i + 1)))
-    from_step = w.whole ∙ ap (counted n) (hex_on s half i st inside is)
+  pub one_more : {b : Number} → Before s from b → Counting s at (n + 1) b.next
+  one_more {b} k = record { few = omega (arith, w.few, k.on); whole = w.whole ∙ ap (counted n) k.whole ∙ counted_before n b.value _ }
 
-  pub refused : i < length s → Refuse ≡ step_of half (get_or s i 0) → counted 0 (hex_at s at) ≡ Not i
-  unfolding counted
-  refused h is = from_step h is
+-- ---- good data that are being written: those from `from` on are good, and are what is still to be written
 
-  pub skipped : i < length s → Skip ≡ step_of half (get_or s i 0) → Counting s at n 16 (i + 1)
-  skipped h is = record { few = omega (arith, w.few); digit = λ k. absurd (omega arith); whole = from_step h is }
-
-  pub paired : {d : ℕ} → i < length s → First d ≡ step_of half (get_or s i 0) → Counting s at n d (i + 1)
-  paired h is = record { few = omega (arith, w.few); digit = λ k. omega (arith, w.few); whole = from_step h is }
-
-  pub one_more : {b : ℕ} → i < length s → Whole b ≡ step_of half (get_or s i 0) → Counting s at (n + 1) 16 (i + 1)
-  one_more {b} h is = record { few = omega (arith, w.few); digit = λ k. absurd (omega arith); whole = from_step h is ∙ counted_before n b _ }
-
--- ---- good data that are being written: the bytes from `i` on, after `half`, are good, and are what is still to be written
-
-pub record Writing (s d₀ : List ℕ) (to : ℕ) (bs d : List ℕ) (place half i : ℕ) : Type 0 where
-  pub sound : hex_go (drop i s) half i ≡ good (said_bytes (hex_go (drop i s) half i))
-  pub placing : Placing d₀ to bs d place (said_bytes (hex_go (drop i s) half i))
+pub record Writing (s d₀ : List ℕ) (to : ℕ) (bs d : List ℕ) (place from : ℕ) : Type 0 where
+  pub sound : hex_at s from ≡ good (said_bytes (hex_at s from))
+  pub placing : Placing d₀ to bs d place (said_bytes (hex_at s from))
 
 pub unwritten : {s : List ℕ} {at : ℕ} {d : List ℕ} {to : ℕ} → hex_at s at ≡ good (said_bytes (hex_at s at)) → to + length (said_bytes (hex_at s at)) ≤ length d
-    → Writing s d to (said_bytes (hex_at s at)) d to 16 at
-unfolding hex_at
+    → Writing s d to (said_bytes (hex_at s at)) d to at
 unwritten e h = record { sound = e; placing = begun h }
 
 -- where a byte in front of what the rest says is good, the rest is
@@ -95,65 +64,41 @@ unfolding byte_before said_bytes
 bytes_front b (good bs) e = refl
 bytes_front b (bad at) e = cc
 
-module _ {s d₀ : List ℕ} {to : ℕ} {bs d : List ℕ} {place half i : ℕ} (w : Writing s d₀ to bs d place half i) where
-  -- the data end: one digit of a pair is still to be written, or nothing
-  at_end_lem : length s ≤ i → Placing d₀ to bs d place (cond (ltb half 16) (half ∷ []) [])
+module _ {s d₀ : List ℕ} {to : ℕ} {bs d : List ℕ} {place from : ℕ} (w : Writing s d₀ to bs d place from) where
+  pub all_written : hex_at s from ≡ good [] → d ≡ sets d₀ to bs
   unfolding said_bytes
-  at_end_lem h = renamed (ap said_bytes (hex_end s half i h)) w.placing
-
-  module _ (h : length s ≤ i) (k : half < 16) where
-    one_left : Placing d₀ to bs d place (half ∷ [])
-    one_left = rw (lt-ltb half 16 k) at (at_end_lem h)
-
-    pub room_for_digit : place < length d
-    room_for_digit = fits one_left
-
-    pub digit_written : set d place half ≡ sets d₀ to bs
-    digit_written = placed (stored one_left)
-
-  pub all_written : length s ≤ i → 16 ≤ half → d ≡ sets d₀ to bs
-  all_written h k = placed (rw (le-ltb half 16 k) at (at_end_lem h))
+  all_written e = placed (renamed (ap said_bytes e) w.placing)
 
   -- good data have no byte that is refused
-  pub none_refused : i < length s → Refuse ≡ step_of half (get_or s i 0) → d ≡ sets d₀ to bs
-  none_refused h is =
-      let e : bad i ≡ good (said_bytes (hex_go (drop i s) half i)) = sym (hex_on s half i _ h is) ∙ w.sound in
+  pub none_refused : {e : ℕ} → hex_at s from ≡ bad e → d ≡ sets d₀ to bs
+  none_refused {e} k =
+      let f : bad e ≡ good (said_bytes (hex_at s from)) = sym k ∙ w.sound in
       let z : ◌≡◌ {A = ℕ} 0 1 = cc in
       absurd (omega arith)
 
-  -- the rest says the same from the state that the step leads to
-  on : {half' : ℕ} → hex_go (drop i s) half i ≡ hex_go (drop (i + 1) s) half' (i + 1) → Writing s d₀ to bs d place half' (i + 1)
-  on e = record { sound = sym e ∙ w.sound ∙ ap (λ (x : Said). good (said_bytes x)) e; placing = renamed (ap said_bytes e) w.placing }
+  module _ {b : Number} (k : Before s from b) where
+    sound_on : hex_at s b.next ≡ good (said_bytes (hex_at s b.next))
+    sound_on = sound_rest b.value _ _ (sym k.whole ∙ w.sound)
 
-  pub parted : i < length s → Skip ≡ step_of half (get_or s i 0) → Writing s d₀ to bs d place 16 (i + 1)
-  parted h is = on (hex_on s half i _ h is)
-
-  pub begins : {c : ℕ} → i < length s → First c ≡ step_of half (get_or s i 0) → Writing s d₀ to bs d place c (i + 1)
-  begins h is = on (hex_on s half i _ h is)
-
-  module _ {b : ℕ} (h : i < length s) (is : Whole b ≡ step_of half (get_or s i 0)) where
-    sound_on : hex_go (drop (i + 1) s) 16 (i + 1) ≡ good (said_bytes (hex_go (drop (i + 1) s) 16 (i + 1)))
-    sound_on = sound_rest b _ _ (sym (hex_on s half i _ h is) ∙ w.sound)
-
-    next_byte : Placing d₀ to bs d place (b ∷ said_bytes (hex_go (drop (i + 1) s) 16 (i + 1)))
-    next_byte = renamed (ap said_bytes (hex_on s half i _ h is) ∙ bytes_front b _ sound_on) w.placing
+    next_byte : Placing d₀ to bs d place (b.value ∷ said_bytes (hex_at s b.next))
+    next_byte = renamed (ap said_bytes k.whole ∙ bytes_front b.value _ sound_on) w.placing
 
     pub room_there : place < length d
     room_there = fits next_byte
 
-    pub byte_stored : Writing s d₀ to bs (set d place b) (place + 1) 16 (i + 1)
+    pub byte_stored : Writing s d₀ to bs (set d place b.value) (place + 1) b.next
     byte_stored = record { sound = sound_on; placing = stored next_byte }
 
 -- ---- the answer and what the slice then holds, by the count
 
 module _ (d : List ℕ) (to : ℕ) where
-  pub into_wrong : {i : ℕ} (x : Said) → Not i ≡ counted 0 x → (Wrong i ≡ hex_into x d to) × (d ≡ hex_put x d to)
+  pub into_wrong : {i : ℕ} (x : Said) → Err i ≡ counted 0 x → (Err (Wrong i) ≡ hex_into x d to) × (d ≡ hex_put x d to)
   unfolding counted hex_into hex_put
   into_wrong (good bs) e = let z : ◌≡◌ {A = ℕ} 0 1 = cc in absurd (omega arith)
   into_wrong (bad at) e = (cc, refl)
 
-  pub into_full : {n : ℕ} {t : Bool} (x : Said) → Of n ≡ counted 0 x → t ≡ leb (to + n) (length d) → t ≡ false
-      → (Full ≡ hex_into x d to) × (d ≡ hex_put x d to)
+  pub into_full : {n : ℕ} {t : Bool} (x : Said) → Ok n ≡ counted 0 x → t ≡ leb (to + n) (length d) → t ≡ false
+      → (Err Full ≡ hex_into x d to) × (d ≡ hex_put x d to)
   unfolding counted hex_into hex_put
   into_full {n} (good bs) e told h =
       let s : n ≡ 0 + length bs = cc in
@@ -162,22 +107,22 @@ module _ (d : List ℕ) (to : ℕ) where
       (rw f, rw f)
   into_full (bad at) e told h = let z : ◌≡◌ {A = ℕ} 0 1 = cc in absurd (omega arith)
 
-  pub into_fits : {n : ℕ} {t : Bool} (x : Said) → Of n ≡ counted 0 x → t ≡ leb (to + n) (length d) → t ≡ true
-      → (Bytes n ≡ hex_into x d to) × (sets d to (said_bytes x) ≡ hex_put x d to)
+  pub into_fits : {n : ℕ} {t : Bool} (x : Said) → Ok n ≡ counted 0 x → t ≡ leb (to + n) (length d) → t ≡ true
+      → (Ok n ≡ hex_into x d to) × (sets d to (said_bytes x) ≡ hex_put x d to)
   unfolding counted hex_into hex_put said_bytes
   into_fits {n} (good bs) e told h =
       let s : n ≡ 0 + length bs = cc in
       let l : length bs ≡ n = omega arith in
       let f : leb (to + length bs) (length d) ≡ true = ap (λ (k : ℕ). leb (to + k) (length d)) l ∙ sym told ∙ h in
-      (rw f (ap Bytes (sym l)), rw f)
+      (rw f (ap Ok (sym l)), rw f)
   into_fits (bad at) e told h = let z : ◌≡◌ {A = ℕ} 0 1 = cc in absurd (omega arith)
 
-pub counted_good : {n : ℕ} (x : Said) → Of n ≡ counted 0 x → x ≡ good (said_bytes x)
+pub counted_good : {n : ℕ} (x : Said) → Ok n ≡ counted 0 x → x ≡ good (said_bytes x)
 unfolding counted said_bytes
 counted_good (good bs) e = refl
 counted_good (bad at) e = cc
 
-pub counted_room : {n : ℕ} (to k : ℕ) (x : Said) → Of n ≡ counted 0 x → to + n ≤ k → to + length (said_bytes x) ≤ k
+pub counted_room : {n : ℕ} (to k : ℕ) (x : Said) → Ok n ≡ counted 0 x → to + n ≤ k → to + length (said_bytes x) ≤ k
 unfolding counted said_bytes
 counted_room {n} to k (good bs) e h = let s : n ≡ 0 + length bs = cc in omega arith
 counted_room to k (bad at) e h = let z : ◌≡◌ {A = ℕ} 0 1 = cc in absurd (omega arith)

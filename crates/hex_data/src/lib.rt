@@ -1,89 +1,46 @@
 // Hex data, read from a place of a slice.
 #![tactic(auto)]
 
-ghost use Rattle.std.specs.Prelude.{◌+◌, ◌≤◌, ◌≡◌, length};
+ghost use Rattle.std.specs.Prelude.{◌+◌, ◌≤◌, ◌≡◌, length, drop};
 ghost use Rattle.std.proofs.lemmas.List.Edits.{sets};
-ghost use Rattle.hex_data.specs.Hex.{good, step_of, hex_at, counted, hex_into, hex_put, hex_byte_at};
+ghost use Rattle.hex_data.specs.Hex.{good, hex_at, counted, hex_into, hex_put, hex_byte_at};
+ghost use Rattle.hex_data.specs.Inside.Next.{first_digit, NextTold};
 ghost use Rattle.hex_data.specs.Inside.Said.{said_bytes};
 
 use numbers::Number;
-use reader::bytes::{blank, digit};
+use reader::bytes::digit;
 use reader::has_room;
+use words::after_blanks;
 
-// What a byte of hex data does: it cannot be taken, it parts, it begins a pair, or with it a byte is whole.
-#[derive(Clone, Copy)]
-pub enum HexStep {
-    Refuse,
-    Skip,
-    First(u8),
-    Whole(u8),
-}
-
-// How many bytes hex data are, or the place of the first byte that cannot be taken.
-#[derive(Clone, Copy)]
-pub enum HexCount {
-    Of(usize),
-    Not(usize),
-}
-
-// How many bytes were read, the place of the first byte that cannot be taken, or that there is no room.
-#[derive(Clone, Copy)]
-pub enum HexRead {
-    Bytes(usize),
+// Why no hex data were read: the place of the first byte that cannot be taken, or no room for them.
+#[derive(Clone, Copy, Debug, PartialEq, Eq)]
+pub enum HexFault {
     Wrong(usize),
     Full,
 }
 
-// What a byte does after `half`, the first digit of a pair, or 16 where no pair is begun: a separator leaves that digit a byte.
-fn hex_step(half: u8, b: u8) -> HexStep
-    ensures { result ≡ step_of half b }
+// The next byte of hex data with the place after it, none at their end, or the place of a byte that cannot be taken.
+fn next_byte(s: &[u8], at: usize) -> Result<Option<Number>, usize>
+    ensures { NextTold s.now at result }
 {
-    let d = digit(b);
-    if d < 16 {
-        if half < 16 {
-            return HexStep::Whole(half * 16 + d);
-        }
-        return HexStep::First(d);
+    let from = after_blanks(s, at);
+    if s.len() <= from {
+        return Ok(None);
     }
-    if blank(b) {
-        if half < 16 {
-            return HexStep::Whole(half);
-        }
-        return HexStep::Skip;
-    }
-    HexStep::Refuse
+    Ok(Some(hex_byte(s, from)?))
 }
 
 // How many bytes the hex data from a place on to the end are.
-pub fn hex_count(s: &[u8], at: usize) -> HexCount
+pub fn hex_count(s: &[u8], at: usize) -> Result<usize, usize>
     ensures { result ≡ counted 0 (hex_at s.now at) }
 {
-    let mut n = 0usize;
-    let mut half = 16u8;
-    let mut i = at;
-    while i < s.len() {
-        let next = i + 1;
-        match hex_step(half, s[i]) {
-            HexStep::Refuse => {
-                return HexCount::Not(i);
-            }
-            HexStep::Skip => {
-                half = 16;
-            }
-            HexStep::First(h) => {
-                half = h;
-            }
-            HexStep::Whole(_) => {
-                half = 16;
-                n += 1;
-            }
-        }
-        i = next;
+    let mut n = 0;
+    let mut from = at;
+    while let Some(byte) = next_byte(s, from)? {
+        n += 1;
+        from = byte.next;
     }
-    if half < 16 {
-        return HexCount::Of(n + 1);
-    }
-    HexCount::Of(n)
+    Ok(n)
 }
 
 // Writes the bytes of hex data that are good and have room.
@@ -93,69 +50,53 @@ fn hex_write(s: &[u8], at: usize, dst: &mut [u8], to: usize)
     ensures { dst.new ≡ sets dst.old to (said_bytes (hex_at s.now at)) }
 {
     let mut place = to;
-    let mut half = 16u8;
-    let mut i = at;
-    while i < s.len() {
-        let next = i + 1;
-        match hex_step(half, s[i]) {
-            HexStep::Refuse => {
-                return;
-            }
-            HexStep::Skip => {
-                half = 16;
-            }
-            HexStep::First(h) => {
-                half = h;
-            }
-            HexStep::Whole(b) => {
-                half = 16;
-                dst[place] = b;
-                place += 1;
-            }
-        }
-        i = next;
-    }
-    if half < 16 {
-        dst[place] = half;
+    let mut from = at;
+    while let Ok(Some(byte)) = next_byte(s, from) {
+        dst[place] = byte.value as u8;
+        place += 1;
+        from = byte.next;
     }
 }
 
 // Reads the hex data from a place on to the end into `dst` from `to` on, all of it or none.
-pub fn hex_into(s: &[u8], at: usize, dst: &mut [u8], to: usize) -> HexRead
+pub fn hex_into(s: &[u8], at: usize, dst: &mut [u8], to: usize) -> Result<usize, HexFault>
     ensures { (result ≡ hex_into (hex_at s.now at) dst.old to)
         × (dst.new ≡ hex_put (hex_at s.now at) dst.old to) }
 {
-    let count = hex_count(s, at);
-    match count {
-        HexCount::Not(i) => HexRead::Wrong(i),
-        HexCount::Of(n) => {
-            if has_room(dst.len(), to, n) {
-                hex_write(s, at, dst, to);
-                return HexRead::Bytes(n);
-            }
-            HexRead::Full
-        }
+    let n = match hex_count(s, at) {
+        Ok(n) => n,
+        Err(bad) => return Err(HexFault::Wrong(bad)),
+    };
+    if !has_room(dst.len(), to, n) {
+        return Err(HexFault::Full);
     }
+    hex_write(s, at, dst, to);
+    Ok(n)
+}
+
+// The hex digit at a place, if one is there.
+fn digit_at(s: &[u8], at: usize) -> Option<u8>
+    ensures { result ≡ first_digit (drop at s.now) }
+{
+    digit(*s.get(at)?)
 }
 
 // The byte that one or two hex digits are, as many as stand there.
-pub fn hex_byte(s: &[u8], at: usize) -> Number
+pub fn hex_byte(s: &[u8], at: usize) -> Result<Number, usize>
     ensures { result ≡ hex_byte_at s.now at }
 {
-    if s.len() <= at {
-        return Number::Bad(at);
-    }
-    let h = digit(s[at]);
-    if 16 <= h {
-        return Number::Bad(at);
-    }
+    let Some(high) = digit_at(s, at) else {
+        return Err(at);
+    };
     let next = at + 1;
-    if s.len() <= next {
-        return Number::Value(h as u32, next);
-    }
-    let d = digit(s[next]);
-    if 16 <= d {
-        return Number::Value(h as u32, next);
-    }
-    Number::Value((h * 16 + d) as u32, next + 1)
+    Ok(match digit_at(s, next) {
+        None => Number {
+            value: u32::from(high),
+            next,
+        },
+        Some(low) => Number {
+            value: u32::from(high * 16 + low),
+            next: next + 1,
+        },
+    })
 }

@@ -13,11 +13,10 @@ use borrow.Author.Tests.{leb-true, eqb-true, ne_eqb, eq-eqb}
 use Rattle.reader.specs.Ascii.{ascii}
 use Rattle.reader.specs.Bytes.{digit_of, is_blank, all, same}
 use Rattle.words.specs.Words.{skip, before_end, trim_end, argument, word_of, after_word}
-use Rattle.numbers.specs.Number.{number_at}
+use Rattle.numbers.specs.Number.{value_at, number_at}
 use Rattle.hex_data.specs.Hex.{good, hex_at}
 use Rattle.writer.specs.Hex.{hex_text}
 use Rattle.writer.specs.Put.{width_of, decimal}
-use Rattle.numbers.specs.declared.Number.TheVariants.{Value}
 use Rattle.reader.proofs.Tests.{both_left, both_right, true_is_false, Every}
 use Rattle.reader.proofs.Solid.{solid_append}
 use Rattle.words.proofs.Solid.{argument_solid}
@@ -72,7 +71,7 @@ module _ (x : List ℕ) where
 -- ---- numbers: up to 60,000, as everywhere in the language
 
 module _ (n : ℕ) (h : n ≤ 60000) where
-  decimal_read : (rest : List ℕ) → Stops rest → number_at 5 60000 (decimal n ++ rest) 0 ≡ Value n (length (decimal n))
+  decimal_read : (rest : List ℕ) → Stops rest → number_at 5 60000 (decimal n ++ rest) 0 ≡ value_at n (length (decimal n))
   unfolding number_at
   decimal_read rest s =
       let few : length (decimal n) ≤ 5 = decimal_few 5 n (omega arith) (omega arith) in
@@ -82,7 +81,7 @@ module _ (n : ℕ) (h : n ≤ 60000) where
   number_said : (s : ℕ → Statement) → number 60000 s (decimal n) ≡ says (s n)
   unfolding number number_says
   number_said s =
-      let e : number_at 5 60000 (decimal n) 0 ≡ Value n (length (decimal n)) =
+      let e : number_at 5 60000 (decimal n) 0 ≡ value_at n (length (decimal n)) =
       ap (λ (l : List ℕ). number_at 5 60000 l 0) (sym (append-nil (decimal n))) ∙ decimal_read [] tt
       in
       rw (e, eq-eqb (length (decimal n)) (length (decimal n)) refl)

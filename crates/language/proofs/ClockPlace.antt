@@ -1,5 +1,6 @@
 -- THE FIRST BYTE THAT A CLOCK VALUE CANNOT TAKE. With it no ending makes a clock value; what stands before it can be ended. No clock value
 -- holds a space or a tab. Assumes nothing.
+use Rattle.std.specs.Prelude.{Ok, Err}
 use Prim.Native.Nat.{ℕ, suc, ◌+◌, ◌*◌, ◌≤◌, ◌<◌}
 use mathlib.Core.Path.{◌≡◌, refl, sym, ap, ◌∙◌}
 use mathlib.Core.Bool.{Bool, true, false, ◌&&◌}
@@ -12,9 +13,7 @@ use Rattle.reader.specs.FirstBad.{CanEnd, FirstBad}
 use Rattle.reader.proofs.Tests.{by_cases, true_is_false}
 use Rattle.reader.proofs.Digits.{of_blank, blank_digit}
 use Rattle.reader.proofs.FirstBad.{bad_end, bad_here, bad_next, bad_as, bad_from, told_stays}
-use Rattle.numbers.specs.Number.{second_of, pair_of}
-use Rattle.numbers.specs.declared.Number.{Number}
-use Rattle.numbers.specs.declared.Number.TheVariants.{Value, Bad}
+use Rattle.numbers.specs.Number.{NumberRead, second_of, pair_of}
 use Rattle.numbers.proofs.PairPlace.{Placed, then_right, then_place, pair_then_lem}
 use Rattle.hex_data.specs.Hex.{Said, good, bad, byte_before, said_place, is_good}
 use Rattle.hex_data.proofs.HexPlace.{before_good}
@@ -42,15 +41,15 @@ unfolding byte_before said_place
 before_place end v (good vs) = refl
 before_place end v (bad at) = refl
 
-value_good : (n : Number) (x : Said) → then_right n (is_good x) ≡ is_good (value_before n x)
+value_good : (n : NumberRead) (x : Said) → then_right n (is_good x) ≡ is_good (value_before n x)
 unfolding value_before
-value_good (Value v next) x = sym (before_good v x)
-value_good (Bad at) x = refl
+value_good (Ok n) x = sym (before_good n.value x)
+value_good (Err at) x = refl
 
-value_place : (end : ℕ) (n : Number) (x : Said) → said_place end (value_before n x) ≡ then_place n (said_place end x)
+value_place : (end : ℕ) (n : NumberRead) (x : Said) → said_place end (value_before n x) ≡ then_place n (said_place end x)
 unfolding value_before said_place
-value_place end (Value v next) x = before_place end v x
-value_place end (Bad at) x = refl
+value_place end (Ok n) x = before_place end n.value x
+value_place end (Err at) x = refl
 
 -- ---- the units, from the place `at` on
 
@@ -73,7 +72,7 @@ lone_place : (low high a at p q : ℕ) → then_place (pair_of low high (a ∷ [
 unfolding pair_of second_of
 lone_place low high a at p q =
     let d : ℕ = digit_of a in
-    by_cases (λ n. then_place n p ≡ then_place n q) (ltb d 10 && (leb low (d * 10 + 9) && leb (d * 10) high)) (Bad (at + 1)) (Bad at) (λ e. refl) (λ e. refl)
+    by_cases (λ n. then_place n p ≡ then_place n q) (ltb d 10 && (leb low (d * 10 + 9) && leb (d * 10) high)) (Err (at + 1)) (Err at) (λ e. refl) (λ e. refl)
 
 -- what the pair at the front tells is what is told of all
 front_place : (r : Range) (rs : List Range) (a : ℕ) (l : List ℕ) (at q : ℕ) → said_place (at + 2 + length (drop 1 l)) (fill rs (drop 1 l) (at + 2)) ≡ at + 2 + q
@@ -193,10 +192,10 @@ clock_stays a k is h e =
 
 -- ---- no blank
 
-value_wrong : (n : Number) (x : Said) → is_good x ≡ false → is_good (value_before n x) ≡ false
+value_wrong : (n : NumberRead) (x : Said) → is_good x ≡ false → is_good (value_before n x) ≡ false
 unfolding value_before
-value_wrong (Value v next) x e = before_good v x ∙ e
-value_wrong (Bad at) x e = refl
+value_wrong (Ok n) x e = before_good n.value x ∙ e
+value_wrong (Err at) x e = refl
 
 module _ (b : ℕ) (other : ltb (digit_of b) 10 ≡ false) (y : List ℕ) where
   fill_other : (rs : List Range) (x : List ℕ) (at : ℕ) → is_good (fill rs (x ++ b ∷ y) at) ≡ false
@@ -206,7 +205,7 @@ module _ (b : ℕ) (other : ltb (digit_of b) 10 ≡ false) (y : List ℕ) where
   fill_other (r ∷ rs) [] at = rw other
   fill_other (r ∷ rs) (a ∷ []) at =
       let d : ℕ = digit_of a in
-      by_cases (λ n. is_good (value_before n (fill rs y (at + 2))) ≡ false) (ltb d 10 && (leb r.low (d * 10 + 9) && leb (d * 10) r.high)) _ (Bad at)
+      by_cases (λ n. is_good (value_before n (fill rs y (at + 2))) ≡ false) (ltb d 10 && (leb r.low (d * 10 + 9) && leb (d * 10) r.high)) _ (Err at)
       (λ e. rw other) (λ e. refl)
   fill_other (r ∷ rs) (a ∷ c ∷ x) at =
       value_wrong (pair_of r.low r.high (a ∷ c ∷ x ++ b ∷ y) at) (fill rs (x ++ b ∷ y) (at + 2)) (fill_other rs x (at + 2))

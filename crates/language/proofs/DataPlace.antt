@@ -1,4 +1,5 @@
 -- THE FIRST BYTE THAT CANNOT BE TAKEN OF DATA AND TEXT: marked data, ENCODE's byte, LOG's signs. Assumes nothing.
+use Rattle.std.specs.Prelude.{Ok, Err}
 use Prim.Native.Nat.{ℕ, suc}
 use mathlib.Core.Path.{◌≡◌, refl, sym, ap, ◌∙◌}
 use mathlib.Core.Bool.{Bool, true, false, cond}
@@ -12,8 +13,7 @@ use Rattle.reader.proofs.Tests.{true_is_false}
 use Rattle.reader.proofs.Digits.{blank_digit}
 use Rattle.reader.proofs.FirstBad.{bad_end, bad_here, bad_next, bad_as, none_bad}
 use Rattle.words.specs.Words.{skip, before_end, trim_end, argument}
-use Rattle.numbers.specs.declared.Number.{Number}
-use Rattle.numbers.specs.declared.Number.TheVariants.{Value, Bad}
+use Rattle.numbers.specs.Number.{NumberRead}
 use Rattle.hex_data.specs.Hex.{Said, good, bad, is_good, hex_at, hex_byte_of, hex_byte_at, byte_place, is_byte_read}
 use Rattle.hex_data.proofs.HexPlace.{is_some, digit_ends, hex_first_bad, byte_by_first, byte_first_bad}
 use Rattle.language.specs.Script.{Meaning, says, log, set_encode}
@@ -153,10 +153,10 @@ hex_trimmed (b ∷ a) = go (trim_end a) (is_blank b) refl
     go [] true e = unfold before_end hex_byte_of in rw e (sym (byte_by_first b a ∙ ap (λ (d : ℕ). ltb d 16) (blank_digit b e)))
     go [] false e = unfold before_end in rw e (byte_by_first b [] ∙ sym (byte_by_first b a))
 
-encode_hex_lem : (x : Number) → faultless (encode_hex x) ≡ is_byte_read x
+encode_hex_lem : (x : NumberRead) → faultless (encode_hex x) ≡ is_byte_read x
 unfolding encode_hex faultless
-encode_hex_lem (Value b next) = refl
-encode_hex_lem (Bad at) = refl
+encode_hex_lem (Ok n) = refl
+encode_hex_lem (Err at) = refl
 
 -- "`/` then a byte": some byte ends it
 last_kept : (x : List ℕ) → faultless (encode_byte (trim_end (x ++ 65 ∷ []))) ≡ true

@@ -1,4 +1,5 @@
 -- A LINE BY ITSELF HAS NO FAULT BUT 3 AND 4: so a line that is right for its column is one that neither number refuses. Assumes nothing.
+use Rattle.std.specs.Prelude.{Ok, Err}
 use Prim.Native.Nat.{ℕ, zero, suc, ◌*◌}
 use mathlib.Core.Path.{◌≡◌, refl, sym, subst}
 use mathlib.Core.Bool.{Bool, true, false, ◌&&◌, ◌||◌}
@@ -10,9 +11,7 @@ use Rattle.reader.specs.Ascii.{ascii}
 use Rattle.reader.specs.Bytes.{all, same, is_blank}
 use Rattle.reader.proofs.Tests.{by_cases, true_is_false}
 use Rattle.words.specs.Words.{skip, argument, word_of, after_word}
-use Rattle.numbers.specs.Number.{number_at}
-use Rattle.numbers.specs.declared.Number.{Number}
-use Rattle.numbers.specs.declared.Number.TheVariants.{Value, Bad}
+use Rattle.numbers.specs.Number.{NumberRead, number_at}
 use Rattle.hex_data.specs.Hex.{Said, good, bad, hex_at, hex_byte_at}
 use Rattle.language.specs.declared.TextFault.{TextFault}
 use Rattle.language.specs.declared.TextFault.TheVariants.{NoSuchName, BadRest}
@@ -36,9 +35,9 @@ number_two : (limit : ℕ) (s : ℕ → Statement) (a : List ℕ) → Two (numbe
 unfolding number number_says faultless
 number_two limit s a = go (number_at 5 limit a 0)
   where
-    go : (x : Number) → Two (number_says s a x)
-    go (Value v next) = checked_two (eqb next (length a)) (says (s v)) (right refl)
-    go (Bad at) = four
+    go : (x : NumberRead) → Two (number_says s a x)
+    go (Ok n) = checked_two (eqb n.next (length a)) (says (s n.value)) (right refl)
+    go (Err at) = four
 
 loop_two : (a : List ℕ) → Two (loop_of a)
 unfolding loop_of faultless
@@ -58,10 +57,10 @@ time_two : (a : List ℕ) → Two (time_of a)
 unfolding time_of time_by
 time_two a = go (number_at 5 60000 a 0)
   where
-    go : (x : Number) → Two (time_by a x)
-    go (Value v next) = unit_two _ v
-    go (Bad zero) = unit_two a 1
-    go (Bad (suc at)) = four
+    go : (x : NumberRead) → Two (time_by a x)
+    go (Ok n) = unit_two _ n.value
+    go (Err zero) = unit_two a 1
+    go (Err (suc at)) = four
 
 clock_two : (x : Said) → Two (clock_says x)
 unfolding clock_says faultless
@@ -100,9 +99,9 @@ encode_two (b ∷ l) =
     by_cases Two (eqb b 58) _ _ (λ e. hex (hex_byte_at l 0))
     (λ e. by_cases Two (eqb b 47) _ _ (λ e₁. text l) (λ e₁. right refl))
   where
-    hex : (x : Number) → Two (encode_hex x)
-    hex (Value v next) = right refl
-    hex (Bad at) = four
+    hex : (x : NumberRead) → Two (encode_hex x)
+    hex (Ok n) = right refl
+    hex (Err at) = four
 
     text : (t : List ℕ) → Two (encode_byte t)
     text [] = four

@@ -1,6 +1,6 @@
 -- The one case in which a line has room for the last byte of its data in one digit alone: what the code tests, that such a line is
 -- read back, and No. 5 in its own words. Assumes nothing.
-use Prim.Native.Nat.{ℕ, suc, ◌+◌, ◌-◌, ◌*◌, ◌%◌, ◌<◌}
+use Prim.Native.Nat.{ℕ, suc, ◌+◌, ◌-◌, ◌*◌, ◌%◌, ◌<◌, ◌≤◌}
 use mathlib.Core.Path.{◌≡◌, refl, sym, ap, ◌∙◌}
 use mathlib.Core.Bool.{Bool, true, false, ◌&&◌, or-false}
 use mathlib.Core.List.{List, [], ◌∷◌, ◌++◌}
@@ -38,15 +38,18 @@ module _ (room : ℕ) (bs : List ℕ) where
   in_one e h = by_the_last e ∙ lt-ltb (last_of bs) 16 h
 
   -- as the code tests it: the bytes before the last in two digits each, and one digit more, fill the room
-  pub no_last : length bs ≡ 0 → false ≡ last_in_one room bs
+  pub no_last : length bs < 1 → false ≡ last_in_one room bs
   no_last e = sym (not_one (omega arith))
 
-  module _ (some : length bs ≡ 0 → ⊥) where
-    pub not_full : ((length bs - 1) * 2 + 1 ≡ room → ⊥) → false ≡ last_in_one room bs
-    not_full h = sym (not_one (λ e. h (omega arith)))
+  module _ (some : 1 ≤ length bs) where
+    before : length (front_of bs) ≡ length bs - 1
+    before = length-take-le (length bs - 1) bs (omega arith)
 
-    pub full : (length bs - 1) * 2 + 1 ≡ room → ltb (last_of bs) 16 ≡ last_in_one room bs
-    full h = sym (by_the_last (omega arith))
+    pub not_full : (length (front_of bs) * 2 + 1 ≡ room → ⊥) → eqb (length (front_of bs) * 2 + 1) room ≡ last_in_one room bs
+    not_full h = ne_eqb _ _ h ∙ sym (not_one (λ e. h (omega (arith, before))))
+
+    pub full : length (front_of bs) * 2 + 1 ≡ room → ltb (last_of bs) 16 ≡ last_in_one room bs
+    full h = sym (by_the_last (omega (arith, before)))
 
 -- ---- what holds in the case: its digits fill the room, and are read back
 

@@ -1,4 +1,5 @@
 -- The values that a line says are right: numbers, times, data, settings. Assumes nothing.
+use Rattle.std.specs.Prelude.{Ok, Err}
 use Prim.Native.Nat.{ℕ, zero, suc, ◌+◌, ◌-◌, ◌*◌, ◌%◌, ◌≤◌, ◌<◌}
 use mathlib.Core.Path.{◌≡◌, refl}
 use mathlib.Core.Bool.{Bool, true, false, cond, ◌&&◌, ◌||◌, or-true}
@@ -9,10 +10,8 @@ use lib.ListN.{length, drop}
 use borrow.Author.Tests.{leb-true, leb-false, lt-ltb, le-leb, eq-eqb}
 use Rattle.reader.specs.Ascii.{ascii}
 use Rattle.reader.specs.Bytes.{all, same}
-use Rattle.numbers.specs.Number.{number_at}
+use Rattle.numbers.specs.Number.{NumberRead, number_at}
 use Rattle.hex_data.specs.Hex.{Said, hex_at, hex_byte_at, good, bad}
-use Rattle.numbers.specs.declared.Number.{Number}
-use Rattle.numbers.specs.declared.Number.TheVariants.{Value, Bad}
 use Rattle.reader.proofs.Tests.{both_left, both_right, by_cases}
 use Rattle.language.specs.declared.TextFault.{TextFault}
 use Rattle.language.specs.declared.TextFault.TheVariants.{BadRest}
@@ -28,37 +27,37 @@ use Rattle.language.proofs.Reading.{When, Reads, Bytes, number_reads, hex_data_r
 
 -- nothing.
 
-unfoldable pub Ok : Meaning → Type 0
-Ok m = meaning_right m ≡ true
+unfoldable pub Proper : Meaning → Type 0
+Proper m = meaning_right m ≡ true
 
-pub fault_ok : (n : TextFault) → Ok (fault n)
-unfolding Ok meaning_right
+pub fault_ok : (n : TextFault) → Proper (fault n)
+unfolding Proper meaning_right
 fault_ok n = refl
 
-pub ok_checked : (t : Bool) (m : Meaning) → (t ≡ true → Ok m) → Ok (checked t m)
+pub ok_checked : (t : Bool) (m : Meaning) → (t ≡ true → Proper m) → Proper (checked t m)
 ok_checked true m f = f refl
 ok_checked false m f = fault_ok BadRest
 
-pub ok_either : (t : Bool) (a b : Meaning) → Ok a → Ok b → Ok (cond t a b)
+pub ok_either : (t : Bool) (a b : Meaning) → Proper a → Proper b → Proper (cond t a b)
 ok_either true a b p q = p
 ok_either false a b p q = q
 
 -- ---- numbers and times
 
-pub number_ok : (s : ℕ → Statement) (a : List ℕ) → ((n : ℕ) → n ≤ 60000 → Ok (says (s n))) → Ok (number 60000 s a)
+pub number_ok : (s : ℕ → Statement) (a : List ℕ) → ((n : ℕ) → n ≤ 60000 → Proper (says (s n))) → Proper (number 60000 s a)
 unfolding number
 number_ok s a f = go (number_at 5 60000 a 0) (number_reads 5 60000 a 0)
   where
-    go : (x : Number) → Reads (λ v. v ≤ 60000) x → Ok (number_says s a x)
-    go (Value v next) h = unfold number_says in ok_checked (eqb next (length a)) (says (s v)) (λ e. f v h)
-    go (Bad at) h = unfold number_says in fault_ok BadRest
+    go : (x : NumberRead) → Reads (λ v. v ≤ 60000) x → Proper (number_says s a x)
+    go (Ok n) h = unfold number_says in ok_checked (eqb n.next (length a)) (says (s n.value)) (λ e. f n.value h)
+    go (Err at) h = unfold number_says in fault_ok BadRest
 
-pub loop_ok : (a : List ℕ) → Ok (loop_of a)
-unfolding loop_of Ok meaning_right right
+pub loop_ok : (a : List ℕ) → Proper (loop_of a)
+unfolding loop_of Proper meaning_right right
 loop_ok a = ok_either (same a [] || same a (ascii "EVER")) _ _ refl (number_ok loop a (λ n h. le-leb n 60000 h))
 
-pub byte_ok : (a : List ℕ) → Ok (byte_of a)
-unfolding byte_of Ok meaning_right right
+pub byte_ok : (a : List ℕ) → Proper (byte_of a)
+unfolding byte_of Proper meaning_right right
 byte_ok a = ok_either (same a []) _ _ refl (number_ok wait_byte a (λ n h. le-leb n 60000 h))
 
 pub millis : (n : ℕ) → n ≤ 60000 → time_right n ≡ true
@@ -69,22 +68,22 @@ pub whole_seconds : (n : ℕ) → n % 1000 ≡ 0 → n ≤ 60000000 → time_rig
 unfolding time_right
 whole_seconds n e h = rw (eq-eqb (n % 1000) 0 e, le-leb n 60000000 h) (or-true (leb n 60000))
 
-pub unit_ok : (unit : List ℕ) (v : ℕ) → v ≤ 60000 → Ok (time_in unit v)
-unfolding time_in Ok meaning_right right
+pub unit_ok : (unit : List ℕ) (v : ℕ) → v ≤ 60000 → Proper (time_in unit v)
+unfolding time_in Proper meaning_right right
 unit_ok unit v h =
     ok_either (same unit (ascii "MS")) _ _ (millis v h)
     (ok_either (same unit (ascii "S") || same unit []) _ _ (whole_seconds (v * 1000) (omega arith) (omega arith))
     (ok_checked (same unit (ascii "M") && leb v 999) _
     (λ e. whole_seconds (v * 60000) (omega arith) (omega (arith, leb-true v 999 (both_right (same unit (ascii "M")) (leb v 999) e))))))
 
-pub time_ok : (a : List ℕ) → Ok (time_of a)
+pub time_ok : (a : List ℕ) → Proper (time_of a)
 unfolding time_of
 time_ok a = go (number_at 5 60000 a 0) (number_reads 5 60000 a 0)
   where
-    go : (x : Number) → Reads (λ v. v ≤ 60000) x → Ok (time_by a x)
-    go (Value v next) h = unfold time_by in unit_ok (drop next a) v h
-    go (Bad zero) h = unfold time_by in unit_ok a 1 (omega arith)
-    go (Bad (suc at)) h = unfold time_by in fault_ok BadRest
+    go : (x : NumberRead) → Reads (λ v. v ≤ 60000) x → Proper (time_by a x)
+    go (Ok n) h = unfold time_by in unit_ok (drop n.next a) n.value h
+    go (Err zero) h = unfold time_by in unit_ok a 1 (omega arith)
+    go (Err (suc at)) h = unfold time_by in fault_ok BadRest
 
 -- ---- data
 
@@ -121,29 +120,29 @@ marked_right ahead (b ∷ l) p =
     (λ e. text_right (126 - ahead) l rest few)
     (λ e. by_cases (When (λ bs. data_right (126 - ahead) bs ≡ true)) (eqb b 58) (hex_at l 0) (bad 0) (λ e₁. hex_fits (length l) (126 - ahead) (hex_at l 0) few (hex_data_right l)) (λ e₁. tt))
 
-pub send_ok : (x : Said) → When (λ bs. data_right send_room bs ≡ true) x → Ok (send_says x)
-unfolding send_says Ok meaning_right right
+pub send_ok : (x : Said) → When (λ bs. data_right send_room bs ≡ true) x → Proper (send_says x)
+unfolding send_says Proper meaning_right right
 send_ok (good bs) h = h
 send_ok (bad at) h = refl
 
-pub data_ok : (x : Said) → When (λ bs. data_right wait_room bs ≡ true) x → Ok (data_says x)
-unfolding data_says Ok meaning_right right same
+pub data_ok : (x : Said) → When (λ bs. data_right wait_room bs ≡ true) x → Proper (data_says x)
+unfolding data_says Proper meaning_right right same
 data_ok (good []) h = refl
 data_ok (good (b ∷ bs)) h = h
 data_ok (bad at) h = refl
 
-pub omit_ok : (x : Said) → When (λ bs. data_right omit_room bs ≡ true) x → Ok (omit_says x)
-unfolding omit_says Ok meaning_right
+pub omit_ok : (x : Said) → When (λ bs. data_right omit_room bs ≡ true) x → Proper (omit_says x)
+unfolding omit_says Proper meaning_right
 omit_ok (good bs) h = h
 omit_ok (bad at) h = refl
 
-pub clock_ok : (x : Said) → When (λ vs. clock_right vs ≡ true) x → Ok (clock_says x)
-unfolding clock_says Ok meaning_right right
+pub clock_ok : (x : Said) → When (λ vs. clock_right vs ≡ true) x → Proper (clock_says x)
+unfolding clock_says Proper meaning_right right
 clock_ok (good vs) h = h
 clock_ok (bad at) h = refl
 
-pub log_ok : (l : List ℕ) → Part 4 l → Ok (log_of l)
-unfolding log_of Ok meaning_right right log_right
+pub log_ok : (l : List ℕ) → Part 4 l → Proper (log_of l)
+unfolding log_of Proper meaning_right right log_right
 log_ok [] p = unfold signs in refl
 log_ok (b ∷ text) p =
     let rest : all in_line text ≡ true = both_right (in_line b) (all in_line text) p.whole in
@@ -151,41 +150,41 @@ log_ok (b ∷ text) p =
     ok_checked (eqb b 32 && signs text false) (says (log text))
     (λ e. rw (le-leb (length text) log_room few, both_right (eqb b 32) (signs text false) e, rest))
 
-pub rts_ok : (a : List ℕ) → Ok (rts_of a)
-unfolding rts_of Ok meaning_right right
+pub rts_ok : (a : List ℕ) → Proper (rts_of a)
+unfolding rts_of Proper meaning_right right
 rts_ok a = ok_either (same a (ascii "ON")) _ _ refl (ok_checked (same a (ascii "OFF")) _ (λ e. refl))
 
 -- ---- settings
 
-pub byte_right : (b : ℕ) → b < 256 → Ok (set_encode b)
-unfolding Ok meaning_right is_byte
+pub byte_right : (b : ℕ) → b < 256 → Proper (set_encode b)
+unfolding Proper meaning_right is_byte
 byte_right b h = lt-ltb b 256 h
 
-pub encode_hex_ok : (x : Number) → Reads (λ v. v < 256) x → Ok (encode_hex x)
+pub encode_hex_ok : (x : NumberRead) → Reads (λ v. v < 256) x → Proper (encode_hex x)
 unfolding encode_hex
-encode_hex_ok (Value b next) h = byte_right b h
-encode_hex_ok (Bad at) h = fault_ok BadRest
+encode_hex_ok (Ok n) h = byte_right n.value h
+encode_hex_ok (Err at) h = fault_ok BadRest
 
-pub encode_byte_ok : (l : List ℕ) → all is_byte l ≡ true → Ok (encode_byte l)
-unfolding encode_byte Ok meaning_right
+pub encode_byte_ok : (l : List ℕ) → all is_byte l ≡ true → Proper (encode_byte l)
+unfolding encode_byte Proper meaning_right
 encode_byte_ok [] h = refl
 encode_byte_ok (b ∷ l) h = both_left (is_byte b) (all is_byte l) h
 
-pub encode_ok : (l : List ℕ) → all is_byte l ≡ true → Ok (encode_of l)
+pub encode_ok : (l : List ℕ) → all is_byte l ≡ true → Proper (encode_of l)
 unfolding encode_of
 encode_ok [] h = fault_ok BadRest
 encode_ok (b ∷ l) h =
     ok_either (eqb b 58) _ _ (encode_hex_ok (hex_byte_at l 0) (hex_byte_reads l))
     (ok_either (eqb b 47) _ _ (encode_byte_ok l (both_right (is_byte b) (all is_byte l) h)) (byte_right b (byte_is_lem b (both_left (is_byte b) (all is_byte l) h))))
 
-pub stopbits_ok : (a : List ℕ) → Ok (stopbits_of a)
-unfolding stopbits_of Ok meaning_right
+pub stopbits_ok : (a : List ℕ) → Proper (stopbits_of a)
+unfolding stopbits_of Proper meaning_right
 stopbits_ok a = refl
 
-pub lfext_ok : (a : List ℕ) → Ok (lfext_of a)
-unfolding lfext_of Ok meaning_right
+pub lfext_ok : (a : List ℕ) → Proper (lfext_of a)
+unfolding lfext_of Proper meaning_right
 lfext_ok a = ok_checked (extension (raise a)) (set_lfext (raise a)) (λ e. e)
 
-pub ex_ok : (a : List ℕ) → Ok (ex_in a)
-unfolding ex_in Ok meaning_right
+pub ex_ok : (a : List ℕ) → Proper (ex_in a)
+unfolding ex_in Proper meaning_right
 ex_ok a = ok_checked (same a (ascii "IN")) set_ex (λ e. refl)

@@ -21,7 +21,7 @@ use Rattle.language.specs.Right.{is_byte, in_line, data_right, right}
 use Rattle.language.proofs.Bytes.{line_bytes}
 use Rattle.language.proofs.Reading.{When, hex_data_right, clock_right_lem}
 use Rattle.language.proofs.Gaps.{all_skip, all_after, all_argument, word_length_lem, word_gap}
-use Rattle.language.proofs.MeaningValues.{Ok, fault_ok, ok_checked, ok_either, loop_ok, byte_ok, time_ok, text_right, hex_fits, Part, marked_right, send_ok, data_ok, omit_ok, clock_ok, log_ok, rts_ok, encode_ok, stopbits_ok, lfext_ok, ex_ok}
+use Rattle.language.proofs.MeaningValues.{Proper, fault_ok, ok_checked, ok_either, loop_ok, byte_ok, time_ok, text_right, hex_fits, Part, marked_right, send_ok, data_ok, omit_ok, clock_ok, log_ok, rts_ok, encode_ok, stopbits_ok, lfext_ok, ex_ok}
 
 -- ---- names
 
@@ -43,28 +43,28 @@ after_word_lem l p =
 
 -- each reader of a table is right, if `ahead` bytes stand before the word
 Reader : ℕ → Entry → Type 0
-Reader ahead e = (rest : List ℕ) → Rest (ahead + length e.word) rest → Ok (e.reader rest)
+Reader ahead e = (rest : List ℕ) → Rest (ahead + length e.word) rest → Proper (e.reader rest)
 
 data AllOk (ahead : ℕ) : List Entry → Type 0 where
   none : AllOk ahead []
   also : {e : Entry} {es : List Entry} → Reader ahead e → AllOk ahead es → AllOk ahead (e ∷ es)
 
-lookup_ok : (ahead : ℕ) (es : List Entry) (w rest : List ℕ) → AllOk ahead es → Rest (ahead + length w) rest → Ok (lookup es w rest)
+lookup_ok : (ahead : ℕ) (es : List Entry) (w rest : List ℕ) → AllOk ahead es → Rest (ahead + length w) rest → Proper (lookup es w rest)
 unfolding lookup Reader
 lookup_ok ahead [] w rest none r = fault_ok NoSuchName
 lookup_ok ahead (e ∷ es) w rest (also f a) r =
-    by_cases Ok (same e.word w) (e.reader rest) (lookup es w rest)
+    by_cases Proper (same e.word w) (e.reader rest) (lookup es w rest)
     (λ q. f rest (rw (same_is e.word w q) r))
     (λ q. lookup_ok ahead es w rest a r)
 
-bare_ok : (m : Meaning) (rest : List ℕ) → Ok m → Ok (bare m rest)
+bare_ok : (m : Meaning) (rest : List ℕ) → Proper m → Proper (bare m rest)
 unfolding bare
 bare_ok m rest h = ok_checked (all is_blank rest) m (λ e. h)
 
-simple_ok : (s : Statement) (rest : List ℕ) → right s ≡ true → Ok (bare (says s) rest)
-simple_ok s rest h = bare_ok (says s) rest (unfold Ok meaning_right in h)
+simple_ok : (s : Statement) (rest : List ℕ) → right s ≡ true → Proper (bare (says s) rest)
+simple_ok s rest h = bare_ok (says s) rest (unfold Proper meaning_right in h)
 
-signal_ok : (n : ℕ) (on : Bool) (rest : List ℕ) → leb n 4 ≡ true → Ok (signal n on rest)
+signal_ok : (n : ℕ) (on : Bool) (rest : List ℕ) → leb n 4 ≡ true → Proper (signal n on rest)
 unfolding signal right
 signal_ok n on rest h = simple_ok (wait_signal n on) rest h
 
@@ -96,11 +96,11 @@ waits_ok =
     (also (λ rest r. signal_ok 4 true rest refl)
     (also (λ rest r. signal_ok 4 false rest refl) none)))))))))))))
 
-wait_ok : (rest : List ℕ) → Rest 5 rest → Ok (wait_of (skip rest))
+wait_ok : (rest : List ℕ) → Rest 5 rest → Proper (wait_of (skip rest))
 unfolding wait_of
 wait_ok rest r = go (skip rest) (λ h. skipped rest r h)
   where
-    go : (x : List ℕ) → (0 < length x → Part 6 x) → Ok (lookup waits (word_of x) (after_word x))
+    go : (x : List ℕ) → (0 < length x → Part 6 x) → Proper (lookup waits (word_of x) (after_word x))
     go [] f = unfold word_of lookup waits same in fault_ok NoSuchName
     go (b ∷ x) f = lookup_ok 6 waits (word_of (b ∷ x)) (after_word (b ∷ x)) waits_ok (after_word_lem (b ∷ x) (f (omega arith)))
 
@@ -116,7 +116,7 @@ names_ok =
     (also (λ rest r. simple_ok pause rest refl)
     (also (λ rest r. simple_ok resume rest refl)
     (also (λ rest r. simple_ok nop rest refl)
-    (also (λ rest r. bare_ok process rest (unfold Ok meaning_right in refl))
+    (also (λ rest r. bare_ok process rest (unfold Proper meaning_right in refl))
     (also (λ rest r. encode_ok (argument rest) (all_argument is_byte rest (line_bytes rest r.part.whole)))
     (also (λ rest r. stopbits_ok (argument rest))
     (also (λ rest r. ex_ok (argument rest))
@@ -128,23 +128,23 @@ names_ok =
 
 -- ---- every line
 
-named_ok : (l : List ℕ) → Part 0 l → Ok (named l)
+named_ok : (l : List ℕ) → Part 0 l → Proper (named l)
 unfolding named
 named_ok l p = lookup_ok 0 names (word_of l) (after_word l) names_ok (after_word_lem l p)
 
-text_ok : (l : List ℕ) → all in_line l ≡ true → length l ≤ send_room → Ok (says (send l))
-unfolding Ok meaning_right right
+text_ok : (l : List ℕ) → all in_line l ≡ true → length l ≤ send_room → Proper (says (send l))
+unfolding Proper meaning_right right
 text_ok l e h = text_right send_room l e h
 
-comment_ok : Ok comment
-unfolding Ok meaning_right
+comment_ok : Proper comment
+unfolding Proper meaning_right
 comment_ok = refl
 
-blank_ok : Ok blank
-unfolding Ok meaning_right
+blank_ok : Proper blank
+unfolding Proper meaning_right
 blank_ok = refl
 
-meaning_ok : (l : List ℕ) → Part 0 l → Ok (meaning l)
+meaning_ok : (l : List ℕ) → Part 0 l → Proper (meaning l)
 unfolding meaning
 meaning_ok [] p = blank_ok
 meaning_ok (b ∷ l) p =
@@ -156,5 +156,5 @@ meaning_ok (b ∷ l) p =
     (ok_either (is_blank b && all is_blank l) blank (named (b ∷ l)) blank_ok (named_ok (b ∷ l) p))))
 
 pub meaning_right_lem : (l : List ℕ) → length l ≤ line_limit → all in_line l ≡ true → meaning_right (meaning l) ≡ true
-unfolding Ok
+unfolding Proper
 meaning_right_lem l h e = meaning_ok l (record { room = omega arith; whole = e })

@@ -1,5 +1,6 @@
 -- What the readers answer is right: numbers within their limits, bytes below 256 and no more than the text has room for, clock
 -- values within their ranges. Assumes nothing.
+use Rattle.std.specs.Prelude.{Ok, Err}
 use Prim.Native.Nat.{ℕ, suc, ◌+◌, ◌-◌, ◌*◌, ◌≤◌, ◌<◌}
 use mathlib.Core.Path.{◌≡◌, refl}
 use mathlib.Core.Bool.{true, cond, ◌&&◌}
@@ -9,12 +10,10 @@ use lib.Dec.{ltb, leb, eqb}
 use lib.ListN.{length, drop}
 use borrow.Author.Tests.{ltb-true, lt-ltb, leb-true}
 use Rattle.reader.specs.Bytes.{digit_of, is_blank, all, same}
-use Rattle.numbers.specs.Number.{digits_ended, number_go, number_at, second_of, pair_of}
+use Rattle.numbers.specs.Number.{NumberRead, value_at, digits_ended, number_go, number_at, second_of, pair_of}
 use Rattle.hex_data.specs.Hex.{Said, byte_before, step_of, after_step, hex_go, hex_at, hex_second, hex_byte_of, hex_byte_at, good, bad}
-use Rattle.numbers.specs.declared.Number.{Number}
-use Rattle.numbers.specs.declared.Number.TheVariants.{Value, Bad}
-use Rattle.hex_data.specs.declared.HexStep.{HexStep}
-use Rattle.hex_data.specs.declared.HexStep.TheVariants.{Refuse, Skip, First, Whole}
+use Rattle.hex_data.specs.Hex.{HexStep}
+use Rattle.hex_data.specs.Hex.{Refuse, Skip, First, Whole}
 use Rattle.reader.proofs.Tests.{both, both_right, by_cases}
 use Rattle.language.specs.Clock.{Range, within, value_before, fill, from, clock_of, second_on, minute_on, hour_on, day_on}
 use Rattle.language.specs.Listing.{last_of}
@@ -26,9 +25,9 @@ abbrev pub When : (List ℕ → Type 0) → Said → Type 0
 When P (good vs) = P vs
 When P (bad at) = Unit {0}
 
-abbrev pub Reads : (ℕ → Type 0) → Number → Type 0
-Reads P (Value v next) = P v
-Reads P (Bad at) = Unit {0}
+abbrev pub Reads : (ℕ → Type 0) → NumberRead → Type 0
+Reads P (Ok n) = P n.value
+Reads P (Err at) = Unit {0}
 
 when_before : (P Q : List ℕ → Type 0) (v : ℕ) (x : Said) → ((vs : List ℕ) → P vs → Q (v ∷ vs)) → When P x → When Q (byte_before v x)
 unfolding byte_before
@@ -43,7 +42,7 @@ when_weaker P Q (bad at) f h = tt
 
 ended_reads : (P : ℕ → Type 0) (n v at : ℕ) → P v → Reads P (digits_ended n v at)
 unfolding digits_ended
-ended_reads P n v at h = by_cases (Reads P) (ltb 0 n) (Value v at) (Bad at) (λ e. h) (λ e. tt)
+ended_reads P n v at h = by_cases (Reads P) (ltb 0 n) (value_at v at) (Err at) (λ e. h) (λ e. tt)
 
 go_reads : (most limit : ℕ) (l : List ℕ) (n v at : ℕ) → v ≤ limit → Reads (λ x. x ≤ limit) (number_go most limit l n v at)
 unfolding number_go
@@ -51,8 +50,8 @@ go_reads most limit [] n v at h = ended_reads (λ x. x ≤ limit) n v at h
 go_reads most limit (b ∷ l) n v at h =
     let w : ℕ = v * 10 + digit_of b in
     by_cases (Reads (λ x. x ≤ limit)) (ltb (digit_of b) 10) _ (digits_ended n v at)
-    (λ e. by_cases (Reads (λ x. x ≤ limit)) (ltb n most) _ (Bad at)
-    (λ e₁. by_cases (Reads (λ x. x ≤ limit)) (leb w limit) (number_go most limit l (n + 1) w (at + 1)) (Bad at)
+    (λ e. by_cases (Reads (λ x. x ≤ limit)) (ltb n most) _ (Err at)
+    (λ e₁. by_cases (Reads (λ x. x ≤ limit)) (leb w limit) (number_go most limit l (n + 1) w (at + 1)) (Err at)
     (λ e₂. go_reads most limit l (n + 1) w (at + 1) (leb-true w limit e₂)) (λ e₂. tt)) (λ e₁. tt))
     (λ e. ended_reads (λ x. x ≤ limit) n v at h)
 
@@ -135,14 +134,14 @@ second_reads : (h : ℕ) (l : List ℕ) (at : ℕ) → h < 16 → Reads (λ v. v
 unfolding hex_second
 second_reads h [] at k = omega arith
 second_reads h (b ∷ l) at k =
-    by_cases (Reads (λ v. v < 256)) (ltb (digit_of b) 16) (Value (h * 16 + digit_of b) (at + 1)) (Value h at)
+    by_cases (Reads (λ v. v < 256)) (ltb (digit_of b) 16) (value_at (h * 16 + digit_of b) (at + 1)) (value_at h at)
     (λ e. omega (arith, ltb-true (digit_of b) 16 e)) (λ e. omega arith)
 
 pub hex_byte_reads : (l : List ℕ) → Reads (λ v. v < 256) (hex_byte_at l 0)
 unfolding hex_byte_at hex_byte_of
 hex_byte_reads [] = tt
 hex_byte_reads (a ∷ l) =
-    by_cases (Reads (λ v. v < 256)) (ltb (digit_of a) 16) (hex_second (digit_of a) l 1) (Bad 0)
+    by_cases (Reads (λ v. v < 256)) (ltb (digit_of a) 16) (hex_second (digit_of a) l 1) (Err 0)
     (λ e. second_reads (digit_of a) l 1 (ltb-true (digit_of a) 16 e)) (λ e. tt)
 
 -- ---- clock values
@@ -151,12 +150,12 @@ pub pair_reads : (r : Range) (l : List ℕ) (at : ℕ) → Reads (λ v. within r
 unfolding pair_of second_of within
 pair_reads r [] at = tt
 pair_reads r (a ∷ []) at =
-    by_cases (Reads (λ v. within r v ≡ true)) (ltb (digit_of a) 10 && (leb r.low (digit_of a * 10 + 9) && leb (digit_of a * 10) r.high)) (Bad (at + 1)) (Bad at)
+    by_cases (Reads (λ v. within r v ≡ true)) (ltb (digit_of a) 10 && (leb r.low (digit_of a * 10 + 9) && leb (digit_of a * 10) r.high)) (Err (at + 1)) (Err at)
     (λ e. tt) (λ e. tt)
 pair_reads r (a ∷ b ∷ l) at =
     let v : ℕ = digit_of a * 10 + digit_of b in
-    by_cases (Reads (λ v. within r v ≡ true)) (ltb (digit_of a) 10 && (leb r.low (digit_of a * 10 + 9) && leb (digit_of a * 10) r.high)) _ (Bad at)
-    (λ e. by_cases (Reads (λ v. within r v ≡ true)) (ltb (digit_of b) 10 && within r v) (Value v (at + 1 + 1)) (Bad (at + 1))
+    by_cases (Reads (λ v. within r v ≡ true)) (ltb (digit_of a) 10 && (leb r.low (digit_of a * 10 + 9) && leb (digit_of a * 10) r.high)) _ (Err at)
+    (λ e. by_cases (Reads (λ v. within r v ≡ true)) (ltb (digit_of b) 10 && within r v) (value_at v (at + 1 + 1)) (Err (at + 1))
     (λ e₁. both_right (ltb (digit_of b) 10) (within r v) e₁) (λ e₁. tt)) (λ e. tt)
 
 -- units that may be left out
@@ -172,11 +171,11 @@ unfolding In in_ranges
 in_more r rs v h vs k = both (within r v) (in_ranges rs vs) h k
 
 -- a value in front of those that are in the further ranges
-value_more : (r : Range) (rs : List Range) (n : Number) (x : Said) → Reads (λ v. within r v ≡ true) n → When (In rs) x
+value_more : (r : Range) (rs : List Range) (n : NumberRead) (x : Said) → Reads (λ v. within r v ≡ true) n → When (In rs) x
     → When (In (r ∷ rs)) (value_before n x)
 unfolding value_before
-value_more r rs (Value v next) x h k = when_before (In rs) (In (r ∷ rs)) v x (in_more r rs v h) k
-value_more r rs (Bad at) x h k = tt
+value_more r rs (Ok n) x h k = when_before (In rs) (In (r ∷ rs)) n.value x (in_more r rs n.value h) k
+value_more r rs (Err at) x h k = tt
 
 fill_right : (rs : List Range) (l : List ℕ) (at : ℕ) → Zero rs → When (In rs) (fill rs l at)
 unfolding fill

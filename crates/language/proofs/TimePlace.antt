@@ -1,4 +1,5 @@
 -- THE FIRST BYTE THAT A TIME CANNOT TAKE: a number, and behind it a unit. Assumes nothing.
+use Rattle.std.specs.Prelude.{Ok, Err}
 use Prim.Native.Nat.{ℕ, zero, suc, ◌+◌, ◌*◌}
 use mathlib.Core.Path.{◌≡◌, refl, sym, ap, ◌∙◌}
 use mathlib.Core.Bool.{Bool, true, false, cond, ◌&&◌, ◌||◌}
@@ -14,10 +15,8 @@ use Rattle.reader.proofs.Tests.{both_left, true_is_false}
 use Rattle.reader.proofs.Same.{same_is}
 use Rattle.reader.proofs.Digits.{blank_digit}
 use Rattle.reader.proofs.FirstBad.{bad_end, bad_here, bad_next, bad_as, bad_from, bad_also}
-use Rattle.numbers.specs.Number.{digits_ended, number_go, number_at, number_place}
+use Rattle.numbers.specs.Number.{NumberRead, value_at, digits_ended, number_go, number_at, number_place}
 use Rattle.numbers.specs.Inside.Moved.{moved_on}
-use Rattle.numbers.specs.declared.Number.{Number}
-use Rattle.numbers.specs.declared.Number.TheVariants.{Value, Bad}
 use Rattle.numbers.proofs.NumberPlace.{Way, ends, refuses, goes, way, place_next}
 use Rattle.language.specs.Script.{wait_time, Meaning, says}
 use Rattle.language.specs.Meaning.{checked, time_in, time_by, time_of}
@@ -84,25 +83,25 @@ module _ (b : ℕ) (d : ltb (digit_of b) 10 ≡ true) where
 -- ---- the number before it
 
 -- the number and what is behind it, after `n` digits: "no number is 1"
-timed : ℕ → List ℕ → Number → Bool
-timed n a (Value v next) = faultless (time_in (drop next a) v)
-timed n a (Bad zero) = cond (ltb 0 n) false (faultless (time_in a 1))
-timed n a (Bad (suc at)) = false
+timed : ℕ → List ℕ → NumberRead → Bool
+timed n a (Ok d) = faultless (time_in (drop d.next a) d.value)
+timed n a (Err zero) = cond (ltb 0 n) false (faultless (time_in a 1))
+timed n a (Err (suc at)) = false
 
 right : ℕ → ℕ → List ℕ → Bool
 right n v a = timed n a (number_go 5 60000 a n v 0)
 
 -- how much of the bytes can be taken
-taken : List ℕ → Number → ℕ
+taken : List ℕ → NumberRead → ℕ
 taken l x = number_place x + unit_taken (drop (number_place x) l)
 
-timed_next : (b n : ℕ) (a : List ℕ) (x : Number) → timed n (b ∷ a) (moved_on 1 x) ≡ timed (n + 1) a x
+timed_next : (b n : ℕ) (a : List ℕ) (x : NumberRead) → timed n (b ∷ a) (moved_on 1 x) ≡ timed (n + 1) a x
 unfolding timed moved_on
-timed_next b n a (Value v next) = let e : 1 + next ≡ suc next = omega arith in rw e
-timed_next b n a (Bad zero) = rw (lt-ltb 0 (n + 1) (omega arith))
-timed_next b n a (Bad (suc at)) = let e : 1 + suc at ≡ suc (suc at) = omega arith in rw e
+timed_next b n a (Ok d) = let e : 1 + d.next ≡ suc d.next = omega arith in rw e
+timed_next b n a (Err zero) = rw (lt-ltb 0 (n + 1) (omega arith))
+timed_next b n a (Err (suc at)) = let e : 1 + suc at ≡ suc (suc at) = omega arith in rw e
 
-taken_next : (b : ℕ) (l : List ℕ) (x : Number) → taken (b ∷ l) (moved_on 1 x) ≡ suc (taken l x)
+taken_next : (b : ℕ) (l : List ℕ) (x : NumberRead) → taken (b ∷ l) (moved_on 1 x) ≡ suc (taken l x)
 unfolding taken
 taken_next b l x = rw (place_next x) (omega arith)
 
@@ -114,7 +113,7 @@ timed_ended : (n v : ℕ) (a : List ℕ) → timed n a (digits_ended n v 0) ≡ 
 unfolding timed digits_ended
 timed_ended n v a = go (ltb 0 n) refl
   where
-    go : (t : Bool) → ltb 0 n ≡ t → timed n a (cond t (Value v 0) (Bad 0)) ≡ faultless (time_in a (cond t v 1))
+    go : (t : Bool) → ltb 0 n ≡ t → timed n a (cond t (value_at v 0) (Err 0)) ≡ faultless (time_in a (cond t v 1))
     go true e = refl
     go false e = rw e
 
@@ -122,7 +121,7 @@ ended_taken : (n v : ℕ) (l : List ℕ) → taken l (digits_ended n v 0) ≡ un
 unfolding taken digits_ended number_place
 ended_taken n v l = go (ltb 0 n)
   where
-    go : (t : Bool) → taken l (cond t (Value v 0) (Bad 0)) ≡ unit_taken l
+    go : (t : Bool) → taken l (cond t (value_at v 0) (Err 0)) ≡ unit_taken l
     go true = omega arith
     go false = omega arith
 
@@ -135,11 +134,11 @@ module _ (b n v : ℕ) where
   w = v * 10 + digit_of b
 
   module _ (d : ltb (digit_of b) 10 ≡ true) where
-    refused_taken : (rest : List ℕ) → taken (b ∷ rest) (Bad 0) ≡ 0
+    refused_taken : (rest : List ℕ) → taken (b ∷ rest) (Err 0) ≡ 0
     unfolding taken number_place
     refused_taken rest = omega (arith, digit_taken b d rest)
 
-    refused_right : (a : List ℕ) → timed n (b ∷ a) (Bad 0) ≡ false
+    refused_right : (a : List ℕ) → timed n (b ∷ a) (Err 0) ≡ false
     unfolding timed
     refused_right a = rw (digit_no_unit b d 1 a) (go (ltb 0 n))
       where
@@ -179,10 +178,10 @@ right_time : (a : List ℕ) → right 0 0 a ≡ faultless (time_of a)
 unfolding time_of right number_at
 right_time a = go (number_go 5 60000 a 0 0 0)
   where
-    go : (x : Number) → timed 0 a x ≡ faultless (time_by a x)
-    go (Value v next) = unfold timed time_by in refl
-    go (Bad zero) = unfold timed time_by in refl
-    go (Bad (suc at)) = unfold timed time_by faultless in refl
+    go : (x : NumberRead) → timed 0 a x ≡ faultless (time_by a x)
+    go (Ok n) = unfold timed time_by in refl
+    go (Err zero) = unfold timed time_by in refl
+    go (Err (suc at)) = unfold timed time_by faultless in refl
 
 pub time_word : OneWord time_of time_taken
 unfolding time_taken number_taken number_at taken

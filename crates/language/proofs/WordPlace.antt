@@ -1,4 +1,5 @@
 -- THE FIRST BYTE THAT A WORD CANNOT TAKE, for each argument that is one word. Assumes nothing.
+use Rattle.std.specs.Prelude.{Ok, Err}
 use Prim.Native.Nat.{ℕ, suc}
 use mathlib.Core.Path.{◌≡◌, refl, sym, ap, subst, ◌∙◌}
 use mathlib.Core.Bool.{Bool, true, false, cond, ◌&&◌, ◌||◌, not}
@@ -15,9 +16,7 @@ use Rattle.reader.proofs.Tests.{both_left, both_right, true_is_false, and_false}
 use Rattle.reader.proofs.Same.{same_is, is_same}
 use Rattle.reader.proofs.Digits.{blank_digit}
 use Rattle.reader.proofs.FirstBad.{bad_end, bad_here, bad_next, bad_as, bad_also, end_as, one_further, other_further}
-use Rattle.numbers.specs.Number.{number_at, is_whole}
-use Rattle.numbers.specs.declared.Number.{Number}
-use Rattle.numbers.specs.declared.Number.TheVariants.{Value, Bad}
+use Rattle.numbers.specs.Number.{NumberRead, number_at, is_whole}
 use Rattle.numbers.proofs.NumberPlace.{number_first_bad, no_other_byte}
 use Rattle.language.specs.Script.{Statement, loop, wait_byte, rts, Meaning, says, set_ex}
 use Rattle.language.specs.Meaning.{checked, number_says, number, loop_of, byte_of, rts_of, ex_in}
@@ -125,9 +124,9 @@ right_number : (s : ℕ → Statement) (a : List ℕ) → faultless (number 6000
 unfolding number
 right_number s a = go (number_at 5 60000 a 0)
   where
-    go : (x : Number) → faultless (number_says s a x) ≡ is_whole a x
-    go (Value v next) = unfold number_says faultless in right_checked (eqb next (length a)) (says (s v)) refl
-    go (Bad at) = unfold number_says faultless in refl
+    go : (x : NumberRead) → faultless (number_says s a x) ≡ is_whole a x
+    go (Ok n) = unfold number_says faultless in right_checked (eqb n.next (length a)) (says (s n.value)) refl
+    go (Err at) = unfold number_says faultless in refl
 
 or_swap : (t u v : Bool) → cond (t || u) true v ≡ ((u || v) || t)
 or_swap true true v = refl

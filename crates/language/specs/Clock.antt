@@ -1,12 +1,10 @@
 -- Document 01, "`#WAIT CLOCK`": clock values. A clock value is the list of the fixed units' values, the longest unit first: at most
 -- day, hour, minute, second; empty where every second matches. No. 3: where it is wrong, the place of the first byte that cannot be taken.
-use Rattle.std.specs.Prelude.{ℕ, ◌+◌, Bool, cond, ◌&&◌, List, [], ◌∷◌, ◌++◌, drop, leb, eqb}
+use Rattle.std.specs.Prelude.{ℕ, ◌+◌, Bool, cond, ◌&&◌, List, [], ◌∷◌, ◌++◌, drop, leb, eqb, Ok, Err}
 use Rattle.reader.specs.Bytes.{same}
-use Rattle.numbers.specs.Number.{pair_of}
+use Rattle.numbers.specs.Number.{NumberRead, pair_of}
 use Rattle.hex_data.specs.Hex.{Said, byte_before, good, bad}
 use Rattle.writer.specs.Put.{two_digits}
-use Rattle.numbers.specs.declared.Number.{Number}
-use Rattle.numbers.specs.declared.Number.TheVariants.{Value, Bad}
 
 -- the range of a unit
 pub record Range : Type 0 where
@@ -38,9 +36,9 @@ abbrev pub day_on : List Range
 day_on = range 1 31 ∷ hour_on
 
 -- a value that was read, in front of the others
-unfoldable pub value_before : Number → Said → Said
-value_before (Value v next) rest = byte_before v rest
-value_before (Bad at) rest = bad at
+unfoldable pub value_before : NumberRead → Said → Said
+value_before (Ok n) rest = byte_before n.value rest
+value_before (Err at) rest = bad at
 
 -- "two digits for that unit and each shorter one, any of the last left out. Left-out shorter units are 00"; from the place `at` on
 unfoldable pub fill : List Range → List ℕ → ℕ → Said

@@ -1,13 +1,11 @@
 -- Document 01, "Lines": what a line means. A line's first byte is a mark, or its first word is a name of the table, whose reader
 -- takes what follows.
-use Rattle.std.specs.Prelude.{ℕ, zero, suc, ◌-◌, ◌*◌, Bool, true, false, cond, ◌&&◌, ◌||◌, not, List, [], ◌∷◌, length, drop, ltb, leb, eqb}
+use Rattle.std.specs.Prelude.{ℕ, zero, suc, ◌-◌, ◌*◌, Bool, true, false, cond, ◌&&◌, ◌||◌, not, List, [], ◌∷◌, length, drop, ltb, leb, eqb, Ok, Err}
 use Rattle.reader.specs.Ascii.{ascii}
 use Rattle.reader.specs.Bytes.{is_blank, all, same}
 use Rattle.words.specs.Words.{skip, argument, word_of, after_word}
-use Rattle.numbers.specs.Number.{number_at}
+use Rattle.numbers.specs.Number.{NumberRead, number_at}
 use Rattle.hex_data.specs.Hex.{Said, hex_at, hex_byte_at, good, bad}
-use Rattle.numbers.specs.declared.Number.{Number}
-use Rattle.numbers.specs.declared.Number.TheVariants.{Value, Bad}
 use Rattle.language.specs.declared.TextFault.TheVariants.{NoSuchName, BadRest}
 use Rattle.language.specs.Clock.{clock_of}
 use Rattle.language.specs.Script.{Statement, send, loop, end, wait_time, wait_data, wait_byte, wait_clock, wait_signal, rts, log, fchange, pause, resume, nop, Meaning, comment, blank, process, set_ex, says, set_encode, set_stopbits, set_omit, set_lfext, fault}
@@ -22,9 +20,9 @@ unfoldable pub bare : Meaning → List ℕ → Meaning
 bare m rest = checked (all is_blank rest) m
 
 -- a number that was read, with nothing after it
-unfoldable pub number_says : (ℕ → Statement) → List ℕ → Number → Meaning
-number_says s a (Value v next) = checked (eqb next (length a)) (says (s v))
-number_says s a (Bad at) = fault BadRest
+unfoldable pub number_says : (ℕ → Statement) → List ℕ → NumberRead → Meaning
+number_says s a (Ok n) = checked (eqb n.next (length a)) (says (s n.value))
+number_says s a (Err at) = fault BadRest
 
 -- "One to five decimal digits, here and below", up to a limit
 unfoldable pub number : ℕ → (ℕ → Statement) → List ℕ → Meaning
@@ -46,10 +44,10 @@ time_in unit v =
     (checked (same unit (ascii "M") && leb v 999) (says (wait_time (v * 60000)))))
 
 -- "no number is 1"; "Number and unit touch"
-unfoldable pub time_by : List ℕ → Number → Meaning
-time_by a (Value v next) = time_in (drop next a) v
-time_by a (Bad zero) = time_in a 1
-time_by a (Bad (suc at)) = fault BadRest
+unfoldable pub time_by : List ℕ → NumberRead → Meaning
+time_by a (Ok n) = time_in (drop n.next a) n.value
+time_by a (Err zero) = time_in a 1
+time_by a (Err (suc at)) = fault BadRest
 
 -- "`#WAIT TIME`: number and MS (0 to 60000), S (0 to 60000) or M (0 to 999)"
 unfoldable pub time_of : List ℕ → Meaning
@@ -101,9 +99,9 @@ log_of [] = says (log [])
 log_of (b ∷ text) = checked (eqb b 32 && signs text false) (says (log text))
 
 -- "`:` and one or two hex digits, `/` then a byte, or the byte; more is ignored"
-unfoldable pub encode_hex : Number → Meaning
-encode_hex (Value b next) = set_encode b
-encode_hex (Bad at) = fault BadRest
+unfoldable pub encode_hex : NumberRead → Meaning
+encode_hex (Ok n) = set_encode n.value
+encode_hex (Err at) = fault BadRest
 
 -- "`/` then a byte"
 unfoldable pub encode_byte : List ℕ → Meaning

@@ -6,14 +6,5 @@ ghost use Rattle.language.specs.Meaning.{is_capital};
 pub fn is_capital(b: u8) -> bool
     ensures { result ≡ is_capital b }
 {
-    if b < b'0' {
-        return false;
-    }
-    if b <= b'9' {
-        return true;
-    }
-    if b < b'A' {
-        return false;
-    }
-    b <= b'Z'
+    matches!(b, b'0'..=b'9' | b'A'..=b'Z')
 }

@@ -6,12 +6,8 @@ ghost use Rattle.language.specs.Listing.{last_in_one};
 pub fn last_in_one(data: &[u8], room: usize) -> bool
     ensures { result ≡ last_in_one room «data».now }
 {
-    if data.len() == 0 {
-        return false;
+    match data {
+        [front @ .., last] => front.len() * 2 + 1 == room && *last < 16,
+        [] => false,
     }
-    let last = data.len() - 1;
-    if last * 2 + 1 != room {
-        return false;
-    }
-    data[last] < 16
 }

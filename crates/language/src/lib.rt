@@ -74,8 +74,9 @@ pub type Cells = [u32; CELL_PLACES];
 // The bytes of the data, one after the other.
 pub type Pool = [u8; POOL_PLACES];
 
-// What else a table holds.
-#[derive(Clone, Copy)]
+// What else a table holds. A narrower type than `encodes` beside `encode`, and lists with their counts, would shut out tables that
+// a caller may hand in and that are answered 25.
+#[derive(Clone, Copy, PartialEq, Eq, Default)]
 pub struct Heads {
     // How many processes there are, and the place after the last cell of each.
     pub processes: u8,
@@ -93,7 +94,7 @@ pub struct Heads {
     pub extension: [u8; LETTER_PLACES],
 }
 
-#[derive(Clone, Copy)]
+#[derive(Clone, Copy, PartialEq, Eq)]
 pub struct Table {
     pub cells: Cells,
     pub pool: Pool,
@@ -101,14 +102,14 @@ pub struct Table {
 }
 
 // Where data lie in the pool.
-#[derive(Clone, Copy)]
+#[derive(Clone, Copy, PartialEq, Eq, Debug)]
 pub struct Span {
     pub from: u16,
     pub count: u16,
 }
 
 // A clock value: how many units are fixed, of second, minute, hour and day in this order, and their values; the others are 0.
-#[derive(Clone, Copy)]
+#[derive(Clone, Copy, PartialEq, Eq, Debug)]
 pub struct Clock {
     pub fixed: u8,
     pub day: u8,
@@ -118,14 +119,14 @@ pub struct Clock {
 }
 
 // A signal, 0 for CTS and 1 to 4 for EX, and a level of it.
-#[derive(Clone, Copy)]
+#[derive(Clone, Copy, PartialEq, Eq, Debug)]
 pub struct Level {
     pub signal: u8,
     pub on: bool,
 }
 
 // What a cell says: no statement, a statement, or nothing that a line can say.
-#[derive(Clone, Copy)]
+#[derive(Clone, Copy, PartialEq, Eq, Debug)]
 pub enum Cell {
     Nothing,
     Send(Span),
@@ -145,30 +146,34 @@ pub enum Cell {
     Unknown,
 }
 
-// Why a text is refused.
-#[derive(Clone, Copy)]
+// Why a text is refused, with the numbers that the bench reads back.
+#[derive(Clone, Copy, PartialEq, Eq, Debug)]
 pub enum TextFault {
-    TextTooLong,
-    LineTooLong,
-    TooManyLines,
-    NoSuchName,
-    BadRest,
-    TooMuchData,
-    TooManyOmits,
-    TooManyLoops,
-    EndWithoutLoop,
-    LoopLeftOpen,
-    TooManyProcesses,
-    StretchTooLong,
+    TextTooLong = 12,
+    LineTooLong = 1,
+    TooManyLines = 2,
+    NoSuchName = 3,
+    BadRest = 4,
+    TooMuchData = 5,
+    TooManyOmits = 10,
+    TooManyLoops = 6,
+    EndWithoutLoop = 7,
+    LoopLeftOpen = 8,
+    TooManyProcesses = 9,
+    StretchTooLong = 11,
 }
 
-// The compiler's answer: the largest stretch of any process; or a fault, with the line that it names, the process for
-// StretchTooLong, 0 for TextTooLong, and the column in that line, from 1, 0 for both of these.
-#[derive(Clone, Copy)]
-pub enum Answer {
-    Accepted(u32),
-    Refused(TextFault, u32, u32),
+// A fault, with the line that it names, the process for StretchTooLong, 0 for TextTooLong, and the column in that line,
+// from 1, 0 for both of these.
+#[derive(Clone, Copy, PartialEq, Eq, Debug)]
+pub struct Refusal {
+    pub fault: TextFault,
+    pub line: u32,
+    pub column: u32,
 }
+
+// The compiler's answer: the largest stretch of any process, or the first fault.
+pub type Answer = Result<u32, Refusal>;
 
 // The answer and the table, which is all zeros with a refusal.
 #[derive(Clone, Copy)]

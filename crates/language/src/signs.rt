@@ -6,39 +6,26 @@ ghost use Rattle.language.specs.Meaning.{is_sign, signs};
 pub fn is_sign(b: u8) -> bool
     ensures { result ≡ is_sign b }
 {
-    match b {
-        b'c' => true,
-        b'Y' => true,
-        b'M' => true,
-        b'D' => true,
-        b'h' => true,
-        b'm' => true,
-        b's' => true,
-        b'@' => true,
-        b'r' => true,
-        b'n' => true,
-        _ => false,
-    }
+    matches!(
+        b,
+        b'c' | b'Y' | b'M' | b'D' | b'h' | b'm' | b's' | b'@' | b'r' | b'n'
+    )
 }
 
 // Whether every `@` begins a sign.
 pub fn right_signs(text: &[u8]) -> bool
     ensures { result ≡ signs text.now false }
 {
-    let mut i = 0usize;
-    while i < text.len() {
-        let next = i + 1;
-        if text[i] == b'@' {
-            if text.len() <= next {
-                return false;
-            }
-            if !is_sign(text[next]) {
-                return false;
-            }
-            i = next + 1;
+    // Whether `@` stands before the byte.
+    let mut marked = false;
+    for byte in text {
+        if !marked {
+            marked = *byte == b'@';
+        } else if is_sign(*byte) {
+            marked = false;
         } else {
-            i = next;
+            return false;
         }
     }
-    true
+    !marked
 }

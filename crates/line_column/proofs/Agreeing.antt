@@ -1,6 +1,6 @@
 -- How far a word agrees with a name, and which of two ways takes more. Assumes nothing.
-use Prim.Native.Nat.{ℕ, suc, ◌+◌, ◌≤◌, ◌<◌}
-use mathlib.Core.Path.{◌≡◌, refl}
+use Prim.Native.Nat.{ℕ, suc, ◌+◌, max, ◌≤◌, ◌<◌}
+use mathlib.Core.Path.{◌≡◌, refl, ◌∙◌}
 use mathlib.Core.Bool.{Bool, true, false, cond}
 use mathlib.Core.List.{List}
 use native.Mathlib.Numerals.{add-one}
@@ -52,9 +52,18 @@ further_moved at m n = go (leb m n) refl
     go true e = let h = leb-true m n e in rw (le-leb (at + m) (at + n) (omega arith))
     go false e = let h = leb-false m n e in rw (lt-leb (at + m) (at + n) (omega arith))
 
+-- as the library has it
+pub max_is : (m n : ℕ) → max m n ≡ further m n
+unfolding further
+max_is m n = go (leb m n) refl
+  where
+    go : (t : Bool) → leb m n ≡ t → max m n ≡ cond t n m
+    go true e = let h = leb-true m n e in omega arith
+    go false e = let h = leb-false m n e in omega arith
+
 -- both from one place on
-pub of_two : (at m n : ℕ) {x y : ℕ} → x ≡ at + m → y ≡ at + n → further x y ≡ at + further m n
-of_two at m n p q = rw (p, q) (further_moved at m n)
+pub of_two : (at m n : ℕ) {x y : ℕ} → x ≡ at + m → y ≡ at + n → max x y ≡ at + further m n
+of_two at m n p q = rw (p, q) (max_is (at + m) (at + n) ∙ further_moved at m n)
 
 -- from the front
 pub at_front : {x n : ℕ} → x ≡ 0 + n → x ≡ n

@@ -7,7 +7,9 @@ use native.Mathlib.Numerals.{add-one}
 use native.Mathlib.Omega.{arith}
 use lib.ListN.{length, drop, get_or, drop_of_length-le}
 use lib.Seq.{drop-cons}
+use Rattle.std.specs.Char.{to_ascii_uppercase}
 use Rattle.language.specs.Meaning.{is_capital, raised}
+use Rattle.line_values.proofs.Extension.{raised_is}
 use Rattle.language.specs.Column.{letters_taken}
 
 -- what is counted of the whole is what is passed and what is counted from `i` on
@@ -37,12 +39,12 @@ module _ {most : ℕ} {w : List ℕ} {i : ℕ} (k : Lettering most w i) where
         omega (arith, k.whole)
 
     -- `x` is what the code has made of the byte, `t` what it has been told of that
-    module _ {x : ℕ} {t : Bool} (few : i < most) (made : x ≡ raised (get_or w i 0)) (told : t ≡ is_capital x) where
+    module _ {x : ℕ} {t : Bool} (few : i < most) (made : x ≡ to_ascii_uppercase (get_or w i 0)) (told : t ≡ is_capital x) where
       one_more : most - i ≡ suc (most - (i + 1))
       one_more = omega arith
 
       told_is : is_capital (raised (get_or w i 0)) ≡ t
-      told_is = ap is_capital (sym made) ∙ sym told
+      told_is = ap is_capital (sym (made ∙ raised_is (get_or w i 0))) ∙ sym told
 
       pub no_letter : t ≡ false → i ≡ letters_taken most w
       unfolding letters_taken

@@ -1,4 +1,5 @@
 -- Data and text behind a name: what each way on has found of the bytes from a place on. Assumes nothing.
+use Rattle.std.specs.Prelude.{Ok, Err}
 use Prim.Native.Nat.{ℕ, suc, ◌+◌, ◌≤◌, ◌<◌}
 use mathlib.Core.Path.{◌≡◌, refl, ap, ◌∙◌}
 use mathlib.Core.Bool.{cond, false}
@@ -10,32 +11,31 @@ use lib.ListN.{length, drop, get_or, drop_of_length-le, length-drop}
 use lib.Seq.{drop-cons}
 use borrow.Author.Tests.{eq-eqb, ne_eqb}
 use Rattle.numbers.specs.Inside.Moved.{moved_on}
+use Rattle.numbers.specs.Number.{NumberRead}
 use Rattle.numbers.specs.declared.Number.{Number}
-use Rattle.numbers.specs.declared.Number.TheVariants.{Value, Bad}
 use Rattle.hex_data.specs.Hex.{Said, good, bad, hex_at, said_place, counted, hex_byte_at, byte_place}
 use Rattle.hex_data.specs.Inside.Said.{moved_said}
-use Rattle.hex_data.specs.declared.HexCount.TheVariants.{Of, Not}
 use Rattle.hex_data.proofs.Moved.{hex_at_moved, hex_byte_at_moved}
 use Rattle.language.specs.Column.{hex_taken, marked_taken, encode_taken, signs_taken, log_taken}
 
 -- ---- hex data
 
-all_said : (at end : ℕ) (x : Said) {n : ℕ} → Of n ≡ counted 0 (moved_said at x) → said_place end x ≡ end
+all_said : (at end : ℕ) (x : Said) {n : ℕ} → Ok n ≡ counted 0 (moved_said at x) → said_place end x ≡ end
 unfolding moved_said counted said_place
 all_said at end (good bs) e = refl
 all_said at end (bad k) e = let z : ◌≡◌ {A = ℕ} 0 1 = cc in absurd (omega arith)
 
-said_to : (at end : ℕ) (x : Said) {place : ℕ} → Not place ≡ counted 0 (moved_said at x) → place ≡ at + said_place end x
+said_to : (at end : ℕ) (x : Said) {place : ℕ} → Err place ≡ counted 0 (moved_said at x) → place ≡ at + said_place end x
 unfolding moved_said counted said_place
 said_to at end (good bs) e = let z : ◌≡◌ {A = ℕ} 0 1 = cc in absurd (omega arith)
 said_to at end (bad k) e = cc
 
 module _ (s : List ℕ) (at : ℕ) where
-  pub hex_all : {n : ℕ} → at ≤ length s → Of n ≡ counted 0 (hex_at s at) → length s ≡ at + hex_taken (drop at s)
+  pub hex_all : {n : ℕ} → at ≤ length s → Ok n ≡ counted 0 (hex_at s at) → length s ≡ at + hex_taken (drop at s)
   unfolding hex_taken
   hex_all h e = omega (arith, length-drop at s, all_said at (length (drop at s)) (hex_at (drop at s) 0) (e ∙ ap (counted 0) (hex_at_moved s at)))
 
-  pub hex_to : {place : ℕ} → Not place ≡ counted 0 (hex_at s at) → place ≡ at + hex_taken (drop at s)
+  pub hex_to : {place : ℕ} → Err place ≡ counted 0 (hex_at s at) → place ≡ at + hex_taken (drop at s)
   unfolding hex_taken
   hex_to e = said_to at (length (drop at s)) (hex_at (drop at s) 0) (e ∙ ap (counted 0) (hex_at_moved s at))
 
@@ -56,15 +56,15 @@ module _ (s : List ℕ) (at : ℕ) (outside : length s ≤ at) where
 
 -- ---- one or two hex digits
 
-byte_all : (at end : ℕ) (x : Number) {b next : ℕ} → Value b next ≡ moved_on at x → byte_place end x ≡ end
+byte_all : (at end : ℕ) (x : NumberRead) {n : Number} → Ok n ≡ moved_on at x → byte_place end x ≡ end
 unfolding moved_on byte_place
-byte_all at end (Value v k) e = refl
-byte_all at end (Bad k) e = let z : ◌≡◌ {A = ℕ} 0 1 = cc in absurd (omega arith)
+byte_all at end (Ok n) e = refl
+byte_all at end (Err k) e = let z : ◌≡◌ {A = ℕ} 0 1 = cc in absurd (omega arith)
 
-byte_to : (at end : ℕ) (x : Number) {place : ℕ} → Bad place ≡ moved_on at x → place ≡ at + byte_place end x
+byte_to : (at end : ℕ) (x : NumberRead) {place : ℕ} → Err place ≡ moved_on at x → place ≡ at + byte_place end x
 unfolding moved_on byte_place
-byte_to at end (Value v k) e = let z : ◌≡◌ {A = ℕ} 0 1 = cc in absurd (omega arith)
-byte_to at end (Bad k) e = cc
+byte_to at end (Ok n) e = let z : ◌≡◌ {A = ℕ} 0 1 = cc in absurd (omega arith)
+byte_to at end (Err k) e = cc
 
 -- ---- a byte is left
 
@@ -103,10 +103,10 @@ module _ (s : List ℕ) (at : ℕ) (inside : at < length s) where
     digits : encode_taken (drop at s) ≡ suc (byte_place (length (drop (at + 1) s)) (hex_byte_at (drop (at + 1) s) 0))
     digits = some_encoded ∙ rw (eq-eqb _ _ e)
 
-    pub digits_all : {b next : ℕ} → Value b next ≡ hex_byte_at s (at + 1) → length s ≡ at + encode_taken (drop at s)
+    pub digits_all : {n : Number} → Ok n ≡ hex_byte_at s (at + 1) → length s ≡ at + encode_taken (drop at s)
     digits_all p = omega (arith, behind, digits, byte_all (at + 1) (length (drop (at + 1) s)) (hex_byte_at (drop (at + 1) s) 0) (p ∙ hex_byte_at_moved s (at + 1)))
 
-    pub digits_to : {place : ℕ} → Bad place ≡ hex_byte_at s (at + 1) → place ≡ at + encode_taken (drop at s)
+    pub digits_to : {place : ℕ} → Err place ≡ hex_byte_at s (at + 1) → place ≡ at + encode_taken (drop at s)
     digits_to p = omega (arith, digits, byte_to (at + 1) (length (drop (at + 1) s)) (hex_byte_at (drop (at + 1) s) 0) (p ∙ hex_byte_at_moved s (at + 1)))
 
   pub byte_encoded : (get_or s at 0 ≡ 58 → ⊥) → length s ≡ at + encode_taken (drop at s)

@@ -3,18 +3,19 @@ ghost use Rattle.std.specs.Prelude.{◌+◌, ◌≤◌, ◌≡◌, length, drop}
 ghost use Rattle.language.specs.Column.{faultless, in_word, behind_blanks};
 ghost use Rattle.line_values.specs.Inside.Line.{line_from};
 ghost use Rattle.line_column.specs.Inside.Kinds.{reader_of, taken_of};
-ghost use Rattle.line_column.specs.Inside.Faults.{no_fault};
 
 use crate::taken::{
     clock_taken, in_taken, lfext_taken, loop_taken, number_taken, rts_taken, time_taken,
 };
+use language::TextFault;
 use line_values::Line;
 use line_values::clocks::wait_clock;
 use line_values::settings::{ex, lfext, rts};
 use line_values::times::{loop_count, wait_byte, wait_time};
 use words::{after_blanks, word_end};
 
-// The name that a word stands behind.
+// The name that a word stands behind. An enum, since with two functions in its place each of ten calls would name both, and the
+// contract their two definitions.
 #[derive(Clone, Copy)]
 pub(crate) enum Kind {
     Loop,
@@ -42,7 +43,7 @@ fn word_taken(word: &[u8], kind: Kind) -> usize
 }
 
 // What a line tells whose argument is this word.
-fn word_read(word: &[u8], kind: Kind) -> Line
+fn word_read(word: &[u8], kind: Kind) -> Result<Line, TextFault>
     ensures { result ≡ line_from (reader_of kind word.now) }
 {
     match kind {
@@ -56,21 +57,11 @@ fn word_read(word: &[u8], kind: Kind) -> Line
     }
 }
 
-// Whether a line has no fault.
-fn no_fault(line: Line) -> bool
-    ensures { result ≡ no_fault line }
-{
-    match line {
-        Line::Faulty(_) => false,
-        _ => true,
-    }
-}
-
 // Whether a word is right as it stands.
 fn right_word(word: &[u8], kind: Kind) -> bool
     ensures { result ≡ faultless (reader_of kind word.now) }
 {
-    no_fault(word_read(word, kind))
+    word_read(word, kind).is_ok()
 }
 
 // The word behind the name that ends at `at`: up to its bad byte, to its end where it is not right as it stands, else to the next word.

@@ -1,4 +1,6 @@
-// The names that something may follow, and the place up to which it can be taken.
+// The names that something may follow, and the place up to which it can be taken. The line is handed on whole, with a place in it,
+// since each answer is a place of the line; a struct of both would be made anew at each call, so that the bound stands in contracts.
+// A test a name, since a `match` on byte strings is a goal for each byte that can differ (ten for three names).
 ghost use Rattle.std.specs.Prelude.{◌+◌, ◌≤◌, ◌≡◌, length, drop};
 ghost use Rattle.language.specs.Column.{behind_blanks, named_taken, waits_behind, names_behind};
 ghost use Rattle.line_column.specs.Inside.Behind.{settings_behind, taken_to};
@@ -45,16 +47,11 @@ fn behind_setting(line: &[u8], to: usize) -> usize
     if is_named(line, 0, to, b"#f:ENCODE") {
         return encode_taken(line, to);
     }
-    if is_named(line, 0, to, b"#f:EX1") {
-        return in_word(line, to, Kind::Ex);
-    }
-    if is_named(line, 0, to, b"#f:EX2") {
-        return in_word(line, to, Kind::Ex);
-    }
-    if is_named(line, 0, to, b"#f:EX3") {
-        return in_word(line, to, Kind::Ex);
-    }
-    if is_named(line, 0, to, b"#f:EX4") {
+    if is_named(line, 0, to, b"#f:EX1")
+        || is_named(line, 0, to, b"#f:EX2")
+        || is_named(line, 0, to, b"#f:EX3")
+        || is_named(line, 0, to, b"#f:EX4")
+    {
         return in_word(line, to, Kind::Ex);
     }
     if is_named(line, 0, to, b"#f:OMIT") {

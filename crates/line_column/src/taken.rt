@@ -1,13 +1,11 @@
 // How many bytes of a word can be taken.
 ghost use Rattle.std.specs.Prelude.{◌+◌, ◌≡◌, drop};
-ghost use Rattle.language.specs.Column.{alike, further, number_taken, loop_taken, unit_taken, time_taken, clock_taken, rts_taken, in_taken, lfext_taken};
+ghost use Rattle.language.specs.Column.{alike, number_taken, loop_taken, unit_taken, time_taken, clock_taken, rts_taken, in_taken, lfext_taken};
 
 use language::LETTERS;
 use language::extension::is_capital;
-use line_values::clocks::{ClockRead, clock_value};
-use line_values::settings::raise;
+use line_values::clocks::clock_value;
 use line_values::times::{DIGITS, MOST};
-use numbers::Number;
 use numbers::decimal::number;
 
 // The place up to which the bytes from `at` on agree with a name.
@@ -15,28 +13,13 @@ fn alike(s: &[u8], at: usize, name: &[u8]) -> usize
     ensures { result ≡ at + alike name.now (drop at s.now) }
 {
     let mut i = at;
-    let mut n = 0usize;
-    while n < name.len() {
-        if s.len() <= i {
-            return i;
-        }
-        if name[n] != s[i] {
+    for b in name {
+        if s.len() <= i || *b != s[i] {
             return i;
         }
         i += 1;
-        n += 1;
     }
     i
-}
-
-// Of two ways the one that takes more.
-fn further(m: usize, n: usize) -> usize
-    ensures { result ≡ further m n }
-{
-    if m <= n {
-        return n;
-    }
-    m
 }
 
 // A number: the place after it, or that of the byte it cannot take.
@@ -44,8 +27,8 @@ pub(crate) fn number_taken(word: &[u8]) -> usize
     ensures { result ≡ number_taken word.now }
 {
     match number(word, 0, DIGITS, MOST) {
-        Number::Value(_, next) => next,
-        Number::Bad(at) => at,
+        Ok(read) => read.next,
+        Err(at) => at,
     }
 }
 
@@ -53,14 +36,14 @@ pub(crate) fn number_taken(word: &[u8]) -> usize
 pub(crate) fn loop_taken(word: &[u8]) -> usize
     ensures { result ≡ loop_taken word.now }
 {
-    further(alike(word, 0, b"EVER"), number_taken(word))
+    alike(word, 0, b"EVER").max(number_taken(word))
 }
 
 // The place up to which the bytes from `at` on are a unit.
 fn unit_taken(word: &[u8], at: usize) -> usize
     ensures { result ≡ at + unit_taken (drop at word.now) }
 {
-    further(alike(word, at, b"MS"), alike(word, at, b"S"))
+    alike(word, at, b"MS").max(alike(word, at, b"S"))
 }
 
 // WAIT TIME: a number and a unit that touch.
@@ -75,8 +58,8 @@ pub(crate) fn clock_taken(word: &[u8]) -> usize
     ensures { result ≡ clock_taken word.now }
 {
     match clock_value(word) {
-        ClockRead::Of(_) => word.len(),
-        ClockRead::Bad(at) => at,
+        Ok(_) => word.len(),
+        Err(at) => at,
     }
 }
 
@@ -84,7 +67,7 @@ pub(crate) fn clock_taken(word: &[u8]) -> usize
 pub(crate) fn rts_taken(word: &[u8]) -> usize
     ensures { result ≡ rts_taken word.now }
 {
-    further(alike(word, 0, b"ON"), alike(word, 0, b"OFF"))
+    alike(word, 0, b"ON").max(alike(word, 0, b"OFF"))
 }
 
 // EX1 to EX4: IN.
@@ -98,15 +81,10 @@ pub(crate) fn in_taken(word: &[u8]) -> usize
 pub(crate) fn lfext_taken(word: &[u8]) -> usize
     ensures { result ≡ lfext_taken word.now }
 {
-    let mut i = 0usize;
-    while i < word.len() {
-        if LETTERS <= i {
+    for i in 0..word.len() {
+        if LETTERS <= i || !is_capital(word[i].to_ascii_uppercase()) {
             return i;
         }
-        if !is_capital(raise(word[i])) {
-            return i;
-        }
-        i += 1;
     }
-    i
+    word.len()
 }

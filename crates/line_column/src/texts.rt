@@ -2,9 +2,8 @@
 ghost use Rattle.std.specs.Prelude.{◌+◌, ◌≤◌, ◌≡◌, false, length, drop};
 ghost use Rattle.language.specs.Column.{hex_taken, marked_taken, encode_taken, signs_taken, log_taken, behind_blanks};
 
-use hex_data::{HexCount, hex_byte, hex_count};
+use hex_data::{hex_byte, hex_count};
 use language::signs::is_sign;
-use numbers::Number;
 use words::after_blanks;
 
 // Hex data: all of them, or those before the byte that cannot be taken.
@@ -13,8 +12,8 @@ pub(crate) fn hex_taken(line: &[u8], at: usize) -> usize
     ensures { result ≡ at + hex_taken (drop at line.now) }
 {
     match hex_count(line, at) {
-        HexCount::Of(_) => line.len(),
-        HexCount::Not(place) => place,
+        Ok(_) => line.len(),
+        Err(place) => place,
     }
 }
 
@@ -46,8 +45,8 @@ pub(crate) fn encode_taken(line: &[u8], at: usize) -> usize
     }
     if line[from] == b':' {
         return match hex_byte(line, from + 1) {
-            Number::Value(_, _) => line.len(),
-            Number::Bad(place) => place,
+            Ok(_) => line.len(),
+            Err(place) => place,
         };
     }
     line.len()
@@ -55,22 +54,17 @@ pub(crate) fn encode_taken(line: &[u8], at: usize) -> usize
 
 // LOG's text: up to a byte that ends no sign.
 fn signs_taken(line: &[u8], at: usize) -> usize
+    requires { at ≤ length line.now }
     ensures { result ≡ at + signs_taken (drop at line.now) false }
 {
-    let mut i = at;
     let mut marked = false;
-    while i < line.len() {
-        if marked {
-            if !is_sign(line[i]) {
-                return i;
-            }
-            marked = false;
-        } else {
-            marked = line[i] == b'@';
+    for i in at..line.len() {
+        if marked && !is_sign(line[i]) {
+            return i;
         }
-        i += 1;
+        marked = !marked && line[i] == b'@';
     }
-    i
+    line.len()
 }
 
 // LOG: one space and text.

@@ -16,7 +16,9 @@ use Rattle.language.specs.declared.TextFault.TheVariants.{LineTooLong, NoSuchNam
 use Rattle.language.specs.Script.{Meaning, comment, blank, says, send, fault}
 use Rattle.language.specs.Meaning.{lookup, send_says, names, named, meaning}
 use Rattle.line_values.specs.declared.Line.{Line}
-use Rattle.line_values.specs.declared.Line.TheVariants.{Comment, Blank, Faulty}
+use Rattle.line_values.specs.declared.Line.TheVariants.{Comment, Blank}
+use Rattle.std.specs.Prelude.{Result, Ok, Err}
+use Rattle.language.specs.declared.TextFault.{TextFault}
 use Rattle.line_values.specs.Inside.Line.{line_from, data_from}
 use Rattle.line_meaning.specs.Inside.Line.{meaning_in, line_of, line_data}
 use Rattle.line_meaning.specs.Inside.Reading.{ReadsLine}
@@ -29,21 +31,21 @@ tail l = take (length l - 1) (drop 1 l)
 
 -- ---- the line as a whole
 
-pub too_long : (l d : List ℕ) → 127 < length l → (Faulty LineTooLong ≡ line_of l) × (d ≡ sets d 0 (line_data l))
+pub too_long : (l d : List ℕ) → 127 < length l → (Err LineTooLong ≡ line_of l) × (d ≡ sets d 0 (line_data l))
 unfolding line_of line_data meaning_in line_from data_from
 too_long l d h = (rw (lt-ltb 127 (length l) h), rw (lt-ltb 127 (length l) h))
 
 -- a line of at most 127 bytes, whose meaning is found
-pub reads : (l : List ℕ) {d e : List ℕ} {line : Line} (m : Meaning) → length l ≤ 127 → meaning l ≡ m → ReadsLine m line d e
+pub reads : (l : List ℕ) {d e : List ℕ} {line : Result Line TextFault} (m : Meaning) → length l ≤ 127 → meaning l ≡ m → ReadsLine m line d e
     → (line ≡ line_of l) × (e ≡ sets d 0 (line_data l))
 unfolding line_of line_data meaning_in
 reads l m h p t = (rw (le-ltb 127 (length l) h, p) t.told, rw (le-ltb 127 (length l) h, p) t.written)
 
-pub tells_blank : (d : List ℕ) → ReadsLine blank Blank d d
+pub tells_blank : (d : List ℕ) → ReadsLine blank (Ok Blank) d d
 unfolding line_from data_from
 tells_blank d = record { told = refl; written = refl }
 
-pub tells_comment : (d : List ℕ) → ReadsLine comment Comment d d
+pub tells_comment : (d : List ℕ) → ReadsLine comment (Ok Comment) d d
 unfolding line_from data_from
 tells_comment d = record { told = refl; written = refl }
 

@@ -1,15 +1,17 @@
 -- The names and the second words, one law for each way on of the code that parts them. Assumes nothing.
-use Prim.Native.Nat.{ℕ, ◌-◌, ◌<◌}
-use mathlib.Core.Path.{◌≡◌, refl, sym, ap, ap₂, ◌∙◌}
+use Prim.Native.Nat.{ℕ, ◌<◌}
+use mathlib.Core.Path.{◌≡◌, refl, sym, ap, ◌∙◌}
 use mathlib.Core.Bool.{Bool, true, false, not}
 use mathlib.Core.List.{List, [], ◌∷◌}
 use lib.Dec.{ltb, eqb}
-use lib.ListN.{length, take, drop, get_or}
+use lib.ListN.{length, get_or}
 use borrow.Author.Tests.{lt-ltb, eq-eqb, ne_eqb}
 use Rattle.reader.specs.Ascii.{ascii}
 use Rattle.reader.specs.Bytes.{all, same}
-use Rattle.words.specs.Words.{skip, argument, after_blanks, word_end}
+use Rattle.words.specs.Words.{skip, argument, word_of, after_word}
+use Rattle.language.specs.declared.TextFault.{TextFault}
 use Rattle.language.specs.declared.TextFault.TheVariants.{NoSuchName}
+use Rattle.std.specs.Prelude.{Result, Ok}
 use Rattle.language.specs.Script.{Meaning, fault, data_of}
 use Rattle.language.specs.Clock.{clock_of}
 use Rattle.language.specs.Meaning.{entry, lookup, bare, signal, waits, names, named, loop_of, wait_of, time_of, byte_of, data_says, marked_data, log_of, encode_of, stopbits_of, ex_in, omit_says, lfext_of}
@@ -18,7 +20,6 @@ use Rattle.line_values.specs.Inside.Line.{line_from, data_from}
 use Rattle.line_values.specs.Inside.Bare.{bare_line}
 use Rattle.line_meaning.specs.Inside.Reading.{ReadsLine}
 use Rattle.line_meaning.specs.Inside.Names.{only, byte_is, length_is, names_with, settings_long, waits_long}
-use Rattle.line_values.proofs.Cuts.{skipped, first_word, behind_word}
 use Rattle.line_meaning.proofs.NameTables.{is_it, none_named, parted, bare_shown}
 use Rattle.line_meaning.proofs.WithoutData.{Not, none_of}
 use Rattle.line_meaning.proofs.Telling.{tells_as, quiet}
@@ -76,8 +77,8 @@ module _ (w rest : List ℕ) where
   second b e = parted (byte_is 1 b) names w rest (eq-eqb (get_or w 1 0) b e)
 
   -- a byte with one name, which has nothing after it
-  pub bare_named : (b : ℕ) (m : Meaning) (name : List ℕ) {told line : Line} {d : List ℕ} → names_with b ≡ entry name (bare m) ∷ [] → get_or w 1 0 ≡ b
-      → told ≡ line_from m → Dataless m → line ≡ bare_line w name rest told → ReadsLine (lookup names w rest) line d d
+  pub bare_named : (b : ℕ) (m : Meaning) (name : List ℕ) {told : Line} {line : Result Line TextFault} {d : List ℕ} → names_with b ≡ entry name (bare m) ∷ [] → get_or w 1 0 ≡ b
+      → Ok told ≡ line_from m → Dataless m → line ≡ bare_line w name rest told → ReadsLine (lookup names w rest) line d d
   bare_named b m name s e p q r =
       let f : lookup names w rest ≡ lookup (entry name (bare m) ∷ []) w rest = second b e ∙ ap (λ es. lookup es w rest) s in
       tells_as f (quiet (r ∙ bare_shown w name rest m p) (lookup_quiet _ (bare_quiet m q, tt) w rest))
@@ -162,17 +163,12 @@ module _ (w rest : List ℕ) where
       parted (λ v. not (length_is 6 v)) (names_with 102) w rest (rw (ne_eqb (length w) 6 n))
       ∙ none_named (only (λ v. not (length_is 6 v)) (names_with 102)) w rest (sym r ∙ g, (sym s ∙ h, (sym p ∙ e, (sym q ∙ f, tt))))
 
--- ---- the word and what follows it, at the places that the code has found
+-- ---- the word and what follows it, as the code has cut them
 
-pub first_name : (s : List ℕ) {end : ℕ} → end ≡ word_end s 0 → named s ≡ lookup names (take end s) (take (length s - end) (drop end s))
+pub first_name : (s : List ℕ) {word rest : List ℕ} → word ≡ word_of s → rest ≡ after_word s → named s ≡ lookup names word rest
 unfolding named
-first_name s p = ap₂ (lookup names) (sym (first_word s p)) (sym (behind_word s p))
+first_name s p q = rw (p, q)
 
--- the bytes from a place on
-abbrev from_on : List ℕ → ℕ → List ℕ
-from_on s n = take (length s - n) (drop n s)
-
-pub second_word : (s : List ℕ) {from end : ℕ} → from ≡ after_blanks s 0 → end ≡ word_end (from_on s from) 0
-    → wait_of (skip s) ≡ lookup waits (take end (from_on s from)) (from_on (from_on s from) end)
+pub second_word : (s : List ℕ) {line word rest : List ℕ} → line ≡ skip s → word ≡ word_of line → rest ≡ after_word line → wait_of (skip s) ≡ lookup waits word rest
 unfolding wait_of
-second_word s {from} p q = ap wait_of (sym (skipped s p)) ∙ ap₂ (lookup waits) (sym (first_word (from_on s from) q)) (sym (behind_word (from_on s from) q))
+second_word s l p q = rw (p, q, l)

@@ -1,4 +1,5 @@
 -- Meanings without data. Assumes nothing.
+use Rattle.std.specs.Prelude.{Ok, Err}
 use Prim.Native.Nat.{ℕ, zero, suc, ◌*◌}
 use mathlib.Core.Path.{◌≡◌, refl}
 use mathlib.Core.Bool.{◌&&◌, ◌||◌}
@@ -7,10 +8,8 @@ use lib.Dec.{leb, eqb}
 use lib.ListN.{length, drop}
 use Rattle.reader.specs.Ascii.{ascii}
 use Rattle.reader.specs.Bytes.{is_blank, all, same}
-use Rattle.numbers.specs.Number.{number_at}
+use Rattle.numbers.specs.Number.{NumberRead, number_at}
 use Rattle.hex_data.specs.Hex.{Said, hex_byte_at, good, bad}
-use Rattle.numbers.specs.declared.Number.{Number}
-use Rattle.numbers.specs.declared.Number.TheVariants.{Value, Bad}
 use Rattle.reader.proofs.Tests.{by_cases}
 use Rattle.language.specs.declared.TextFault.TheVariants.{BadRest}
 use Rattle.language.specs.Script.{Statement, loop, wait_time, wait_byte, data_of, Meaning, set_ex, says, set_encode, set_lfext, fault}
@@ -24,10 +23,10 @@ pub bare_quiet : (m : Meaning) → Dataless m → (rest : List ℕ) → Dataless
 unfolding bare data_from
 bare_quiet m h rest = by_cases Dataless (all is_blank rest) m (fault BadRest) (λ e. h) (λ e. refl)
 
-number_quiet : (s : ℕ → Statement) → ((v : ℕ) → data_of (s v) ≡ []) → (a : List ℕ) (n : Number) → Dataless (number_says s a n)
+number_quiet : (s : ℕ → Statement) → ((v : ℕ) → data_of (s v) ≡ []) → (a : List ℕ) (n : NumberRead) → Dataless (number_says s a n)
 unfolding number_says data_from
-number_quiet s h a (Value v next) = by_cases Dataless (eqb next (length a)) (says (s v)) (fault BadRest) (λ e. h v) (λ e. refl)
-number_quiet s h a (Bad at) = refl
+number_quiet s h a (Ok n) = by_cases Dataless (eqb n.next (length a)) (says (s n.value)) (fault BadRest) (λ e. h n.value) (λ e. refl)
+number_quiet s h a (Err at) = refl
 
 pub loop_quiet : (a : List ℕ) → Dataless (loop_of a)
 unfolding loop_of number data_from data_of
@@ -48,11 +47,11 @@ unit_quiet u v =
     (λ e. by_cases Dataless (same u (ascii "S") || same u []) (says (wait_time (v * 1000))) _ (λ e₁. refl)
     (λ e₁. by_cases Dataless (same u (ascii "M") && leb v 999) (says (wait_time (v * 60000))) (fault BadRest) (λ e₂. refl) (λ e₂. refl)))
 
-time_by_quiet : (a : List ℕ) (n : Number) → Dataless (time_by a n)
+time_by_quiet : (a : List ℕ) (n : NumberRead) → Dataless (time_by a n)
 unfolding time_by data_from
-time_by_quiet a (Value v next) = unit_quiet (drop next a) v
-time_by_quiet a (Bad zero) = unit_quiet a 1
-time_by_quiet a (Bad (suc at)) = refl
+time_by_quiet a (Ok n) = unit_quiet (drop n.next a) n.value
+time_by_quiet a (Err zero) = unit_quiet a 1
+time_by_quiet a (Err (suc at)) = refl
 
 pub time_quiet : (a : List ℕ) → Dataless (time_of a)
 unfolding time_of
@@ -77,10 +76,10 @@ pub stopbits_quiet : (a : List ℕ) → Dataless (stopbits_of a)
 unfolding stopbits_of data_from
 stopbits_quiet a = refl
 
-hex_quiet : (n : Number) → Dataless (encode_hex n)
+hex_quiet : (n : NumberRead) → Dataless (encode_hex n)
 unfolding encode_hex data_from
-hex_quiet (Value v next) = refl
-hex_quiet (Bad at) = refl
+hex_quiet (Ok n) = refl
+hex_quiet (Err at) = refl
 
 second_quiet : (l : List ℕ) → Dataless (encode_byte l)
 unfolding encode_byte data_from

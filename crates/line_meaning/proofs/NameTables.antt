@@ -11,7 +11,7 @@ use Rattle.language.specs.declared.TextFault.TheVariants.{NoSuchName, BadRest}
 use Rattle.language.specs.Script.{Meaning, fault}
 use Rattle.language.specs.Meaning.{Entry, entry, lookup, bare}
 use Rattle.line_values.specs.declared.Line.{Line}
-use Rattle.line_values.specs.declared.Line.TheVariants.{Faulty}
+use Rattle.std.specs.Prelude.{Ok, Err}
 use Rattle.line_values.specs.Inside.Line.{line_from}
 use Rattle.line_values.specs.Inside.Bare.{bare_line}
 use Rattle.line_meaning.specs.Inside.Names.{only}
@@ -57,13 +57,13 @@ parted p (e ∷ es) w rest h =
 -- ---- a name with nothing after it
 
 bare_case : (t u : Bool) (m : Meaning)
-    → cond t (cond u (line_from m) (Faulty BadRest)) (Faulty NoSuchName) ≡ line_from (cond t (cond u m (fault BadRest)) (fault NoSuchName))
+    → cond t (cond u (line_from m) (Err BadRest)) (Err NoSuchName) ≡ line_from (cond t (cond u m (fault BadRest)) (fault NoSuchName))
 unfolding line_from
 bare_case true true m = refl
 bare_case true false m = refl
 bare_case false u m = refl
 
-pub bare_shown : (w name rest : List ℕ) (m : Meaning) {told : Line} → told ≡ line_from m
+pub bare_shown : (w name rest : List ℕ) (m : Meaning) {told : Line} → Ok told ≡ line_from m
     → bare_line w name rest told ≡ line_from (lookup (entry name (bare m) ∷ []) w rest)
 unfolding bare_line lookup bare
 bare_shown w name rest m p = rw (p, flipped w name (same w name) refl) (bare_case (same w name) (all is_blank rest) m)

@@ -9,7 +9,9 @@ use borrow.Author.Tests.{lt-ltb, eq-eqb, ne_eqb}
 use Rattle.reader.specs.Ascii.{ascii}
 use Rattle.reader.specs.Bytes.{all, same}
 use Rattle.words.specs.Words.{argument}
+use Rattle.language.specs.declared.TextFault.{TextFault}
 use Rattle.language.specs.declared.TextFault.TheVariants.{NoSuchName}
+use Rattle.std.specs.Prelude.{Result, Ok}
 use Rattle.language.specs.Script.{process, says, wait_signal, pause, resume, fault}
 use Rattle.language.specs.Table.{cell_for}
 use Rattle.language.specs.Clock.{clock_of}
@@ -39,12 +41,12 @@ module _ (w rest : List ℕ) where
   third : (n b : ℕ) → get_or w 2 0 ≡ b → lookup (waits_long n) w rest ≡ lookup (only (byte_is 2 b) (waits_long n)) w rest
   third n b e = parted (byte_is 2 b) (waits_long n) w rest (eq-eqb (get_or w 2 0) b e)
 
-  pub signalled : (n b k : ℕ) (on : Bool) (name : List ℕ) {told line : Line} → only (byte_is 2 b) (waits_long n) ≡ entry name (signal k on) ∷ []
+  pub signalled : (n b k : ℕ) (on : Bool) (name : List ℕ) {told : Line} {line : Result Line TextFault} → only (byte_is 2 b) (waits_long n) ≡ entry name (signal k on) ∷ []
       → get_or w 2 0 ≡ b → told ≡ level_line k on → line ≡ bare_line w name rest told → line ≡ line_from (lookup (waits_long n) w rest)
   unfolding level_line signal
   signalled n b k on name s e p q =
       q
-      ∙ bare_shown w name rest (says (wait_signal k on)) (p ∙ unfold line_from cell_for in refl)
+      ∙ bare_shown w name rest (says (wait_signal k on)) (ap Ok p ∙ unfold line_from cell_for in refl)
       ∙ ap line_from (sym (third n b e ∙ ap (λ es. lookup es w rest) s))
 
   pub clock_named : {t : Bool} → t ≡ same w (ascii "CLOCK") → t ≡ true → lookup (waits_long 5) w rest ≡ clock_says (clock_of (argument rest))
@@ -75,17 +77,17 @@ module _ (w rest : List ℕ) where
   unfolding names_with only names lookup same
   rts_named p e = is_it (names_with 82) w (ascii "#RTS") rest p e
 
-  pub rts_not : {t : Bool} {told line : Line} → t ≡ same w (ascii "#RTS") → t ≡ false → told ≡ line_from (says resume)
+  pub rts_not : {t : Bool} {told : Line} {line : Result Line TextFault} → t ≡ same w (ascii "#RTS") → t ≡ false → Ok told ≡ line_from (says resume)
       → line ≡ bare_line w (ascii "#RESUME") rest told → line ≡ line_from (lookup (names_with 82) w rest)
   unfolding names_with only names lookup
   rts_not p e q r = r ∙ bare_shown w (ascii "#RESUME") rest (says resume) q ∙ ap line_from (sym (is_not (ascii "#RTS") (λ l. rts_of (argument l)) (entry (ascii "#RESUME") (bare (says resume)) ∷ []) w rest p e))
 
-  pub pause_named : {told line : Line} → length w ≡ 6 → told ≡ line_from (says pause) → line ≡ bare_line w (ascii "#PAUSE") rest told
+  pub pause_named : {told : Line} {line : Result Line TextFault} → length w ≡ 6 → Ok told ≡ line_from (says pause) → line ≡ bare_line w (ascii "#PAUSE") rest told
       → line ≡ line_from (lookup (names_with 80) w rest)
   unfolding names_with only names lookup
   pause_named e q r = r ∙ bare_shown w (ascii "#PAUSE") rest (says pause) q ∙ ap line_from (sym (parted (length_is 6) (names_with 80) w rest (eq-eqb (length w) 6 e)))
 
-  pub process_named : {told line : Line} → Not (length w) 6 → told ≡ line_from process → line ≡ bare_line w (ascii "#PROCESS") rest told
+  pub process_named : {told : Line} {line : Result Line TextFault} → Not (length w) 6 → Ok told ≡ line_from process → line ≡ bare_line w (ascii "#PROCESS") rest told
       → line ≡ line_from (lookup (names_with 80) w rest)
   unfolding names_with only names lookup
   process_named e q r =

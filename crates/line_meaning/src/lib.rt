@@ -5,12 +5,14 @@ ghost use Rattle.std.specs.Prelude.{◌≡◌};
 ghost use Rattle.std.proofs.lemmas.List.Edits.{sets};
 ghost use Rattle.line_meaning.specs.Inside.Line.{line_of, line_data};
 
+use crate::part::Part;
 use language::{LINE, TextFault};
 use line_values::Line;
 use line_values::parts::only_blanks;
 
 mod names;
 mod naming;
+mod part;
 mod texts;
 mod waits;
 
@@ -19,39 +21,32 @@ pub const ROOM: usize = LINE + 1;
 
 pub type Data = [u8; ROOM];
 
-// How many bytes data are, or the place of the first byte that cannot be taken.
-#[derive(Clone, Copy)]
-enum Found {
-    Bytes(u16),
-    Bad(usize),
-}
-
 // Reads one line, without its LF and CR: what it means, and its data at the front of `bytes`.
-pub fn read_line(line: &[u8], bytes: &mut Data) -> Line
+pub fn read_line(line: &[u8], bytes: &mut Data) -> Result<Line, TextFault>
     ensures { (result ≡ line_of line.now)
         × (bytes.new ≡ sets bytes.old 0 (line_data line.now)) }
 {
     if LINE < line.len() {
-        return Line::Faulty(TextFault::LineTooLong);
+        return Err(TextFault::LineTooLong);
     }
     if line.len() == 0 {
-        return Line::Blank;
+        return Ok(Line::Blank);
     }
     let first = line[0];
     if first == b';' {
-        return Line::Comment;
+        return Ok(Line::Comment);
     }
     if first == b'#' {
-        return names::named(line, bytes);
+        return names::named(Part { bytes: line }, bytes);
     }
     if first == b'/' {
-        return texts::send_text(&line[1..], bytes);
+        return texts::send_text(Part { bytes: &line[1..] }, bytes);
     }
     if first == b':' {
-        return texts::send_hex(&line[1..], bytes);
+        return texts::send_hex(Part { bytes: &line[1..] }, bytes);
     }
     if only_blanks(line) {
-        return Line::Blank;
+        return Ok(Line::Blank);
     }
-    Line::Faulty(TextFault::NoSuchName)
+    Err(TextFault::NoSuchName)
 }

@@ -12,7 +12,7 @@ use line_values::parts::{argument, bare_name, is_name};
 use line_values::settings::{ex, rts};
 
 // The names with an R: RTS and RESUME.
-pub(crate) fn rts_or_resume<'a>(word: &'a [u8], rest: &'a [u8]) -> Line
+pub(crate) fn rts_or_resume(word: &[u8], rest: &[u8]) -> Result<Line, TextFault>
     ensures { result ≡ line_from (lookup (names_with 82) word.now rest.now) }
 {
     if is_name(word, b"#RTS") {
@@ -22,7 +22,7 @@ pub(crate) fn rts_or_resume<'a>(word: &'a [u8], rest: &'a [u8]) -> Line
 }
 
 // The names with a P: PAUSE and PROCESS.
-pub(crate) fn pause_or_process<'a>(word: &'a [u8], rest: &'a [u8]) -> Line
+pub(crate) fn pause_or_process(word: &[u8], rest: &[u8]) -> Result<Line, TextFault>
     ensures { result ≡ line_from (lookup (names_with 80) word.now rest.now) }
 {
     if word.len() == 6 {
@@ -32,22 +32,17 @@ pub(crate) fn pause_or_process<'a>(word: &'a [u8], rest: &'a [u8]) -> Line
 }
 
 // The names of f: lines with six bytes: EX1 to EX4.
-pub(crate) fn only_ex<'a>(word: &'a [u8], rest: &'a [u8]) -> Line
+pub(crate) fn only_ex(word: &[u8], rest: &[u8]) -> Result<Line, TextFault>
     ensures { result ≡ line_from (lookup (settings_long 6) word.now rest.now) }
 {
-    if is_name(word, b"#f:EX1") {
+    if is_name(word, b"#f:EX1")
+        || is_name(word, b"#f:EX2")
+        || is_name(word, b"#f:EX3")
+        || is_name(word, b"#f:EX4")
+    {
         return ex(argument(rest));
     }
-    if is_name(word, b"#f:EX2") {
-        return ex(argument(rest));
-    }
-    if is_name(word, b"#f:EX3") {
-        return ex(argument(rest));
-    }
-    if is_name(word, b"#f:EX4") {
-        return ex(argument(rest));
-    }
-    Line::Faulty(TextFault::NoSuchName)
+    Err(TextFault::NoSuchName)
 }
 
 // A wait for a level of a signal.
@@ -57,35 +52,36 @@ fn level(signal: u8, on: bool) -> Line
     Line::Says(Cell::WaitSignal(Level { signal, on }))
 }
 
-// The second words of five bytes: CLOCK, and signals that are on.
-pub(crate) fn of_five<'a>(word: &'a [u8], rest: &'a [u8]) -> Line
+// The second words of five bytes: CLOCK, and signals that are on. One function for both lengths would be handed five names, so that
+// all ten would still stand.
+pub(crate) fn of_five(word: &[u8], rest: &[u8]) -> Result<Line, TextFault>
     ensures { result ≡ line_from (lookup (waits_long 5) word.now rest.now) }
 {
     if word.len() < 3 {
-        return Line::Faulty(TextFault::NoSuchName);
+        return Err(TextFault::NoSuchName);
     }
     match word[2] {
         b'O' => {
             if is_name(word, b"CLOCK") {
                 return wait_clock(argument(rest));
             }
-            Line::Faulty(TextFault::NoSuchName)
+            Err(TextFault::NoSuchName)
         }
         b'S' => bare_name(word, b"CTSON", rest, level(0, true)),
         b'1' => bare_name(word, b"EX1ON", rest, level(1, true)),
         b'2' => bare_name(word, b"EX2ON", rest, level(2, true)),
         b'3' => bare_name(word, b"EX3ON", rest, level(3, true)),
         b'4' => bare_name(word, b"EX4ON", rest, level(4, true)),
-        _ => Line::Faulty(TextFault::NoSuchName),
+        _ => Err(TextFault::NoSuchName),
     }
 }
 
 // The second words of six bytes: signals that are off.
-pub(crate) fn of_six<'a>(word: &'a [u8], rest: &'a [u8]) -> Line
+pub(crate) fn of_six(word: &[u8], rest: &[u8]) -> Result<Line, TextFault>
     ensures { result ≡ line_from (lookup (waits_long 6) word.now rest.now) }
 {
     if word.len() < 3 {
-        return Line::Faulty(TextFault::NoSuchName);
+        return Err(TextFault::NoSuchName);
     }
     match word[2] {
         b'S' => bare_name(word, b"CTSOFF", rest, level(0, false)),
@@ -93,6 +89,6 @@ pub(crate) fn of_six<'a>(word: &'a [u8], rest: &'a [u8]) -> Line
         b'2' => bare_name(word, b"EX2OFF", rest, level(2, false)),
         b'3' => bare_name(word, b"EX3OFF", rest, level(3, false)),
         b'4' => bare_name(word, b"EX4OFF", rest, level(4, false)),
-        _ => Line::Faulty(TextFault::NoSuchName),
+        _ => Err(TextFault::NoSuchName),
     }
 }

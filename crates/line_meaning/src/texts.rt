@@ -1,127 +1,107 @@
 // Lines with data: text as it stands, hex data, and LOG's text with its signs.
-ghost use Rattle.std.specs.Prelude.{◌≤◌, ◌≡◌, length};
+ghost use Rattle.std.specs.Prelude.{◌≡◌, length};
 ghost use Rattle.std.proofs.lemmas.List.Edits.{sets};
 ghost use Rattle.words.specs.Words.{skip};
 ghost use Rattle.hex_data.specs.Hex.{hex_at};
 ghost use Rattle.language.specs.Script.{send, says};
 ghost use Rattle.language.specs.Meaning.{send_says, marked_data, data_says, omit_says, log_of};
 ghost use Rattle.line_meaning.specs.Inside.Reading.{ReadsLine, ReadsData};
-ghost use Rattle.language.specs.Limits.{line_limit};
 
-use crate::{Data, Found};
-use hex_data::{HexRead, hex_into};
+use crate::Data;
+use crate::part::Part;
+use hex_data::hex_into;
 use language::signs::right_signs;
 use language::{Cell, Span, TextFault};
 use line_values::Line;
-use words::after_blanks;
 use writer::put_bytes;
 
 // Puts text into the lent bytes as it stands.
-fn put_text(text: &[u8], bytes: &mut Data) -> u16
-    requires { length text.now ≤ line_limit }
-    ensures { (result ≡ length text.now)
-        × (bytes.new ≡ sets bytes.old 0 text.now) }
+fn put_text(text: Part, bytes: &mut Data) -> u16
+    ensures { (result ≡ length text.entry.bytes.now)
+        × (bytes.new ≡ sets bytes.old 0 text.entry.bytes.now) }
 {
-    put_bytes(bytes, 0, text);
-    text.len() as u16
+    put_bytes(bytes, 0, text.bytes);
+    text.bytes.len() as u16
 }
 
-// Reads hex data into the lent bytes, all of it or none.
-fn read_hex(text: &[u8], bytes: &mut Data) -> Found
-    requires { length text.now ≤ line_limit }
-    ensures { ReadsData (hex_at text.now 0) result bytes.old bytes.new }
+// Reads hex data into the lent bytes, all of it or none: how many bytes they are.
+fn read_hex(text: Part, bytes: &mut Data) -> Result<u16, TextFault>
+    ensures { ReadsData (hex_at text.entry.bytes.now 0) result bytes.old bytes.new }
 {
-    match hex_into(text, 0, bytes, 0) {
-        HexRead::Bytes(n) => Found::Bytes(n as u16),
-        HexRead::Wrong(at) => Found::Bad(at),
-        HexRead::Full => Found::Bad(0),
+    match hex_into(text.bytes, 0, bytes, 0) {
+        Ok(n) => Ok(n as u16),
+        Err(_) => Err(TextFault::BadRest),
     }
 }
 
 // Reads data after its mark: `/` and text, or `:` and hex data.
-fn read_marked(rest: &[u8], bytes: &mut Data) -> Found
-    requires { length rest.now ≤ line_limit }
-    ensures { ReadsData (marked_data rest.now) result bytes.old bytes.new }
+fn read_marked(rest: Part, bytes: &mut Data) -> Result<u16, TextFault>
+    ensures { ReadsData (marked_data rest.entry.bytes.now) result bytes.old bytes.new }
 {
-    if rest.len() == 0 {
-        return Found::Bad(0);
+    if rest.bytes.len() == 0 {
+        return Err(TextFault::BadRest);
     }
-    let mark = rest[0];
+    let mark = rest.bytes[0];
     if mark == b'/' {
-        return Found::Bytes(put_text(&rest[1..], bytes));
+        return Ok(put_text(rest.after(1), bytes));
     }
     if mark == b':' {
-        return read_hex(&rest[1..], bytes);
+        return read_hex(rest.after(1), bytes);
     }
-    Found::Bad(0)
+    Err(TextFault::BadRest)
 }
 
 // A line that sends text.
-pub(crate) fn send_text(text: &[u8], bytes: &mut Data) -> Line
-    requires { length text.now ≤ line_limit }
-    ensures { ReadsLine (says (send text.now)) result bytes.old bytes.new }
+pub(crate) fn send_text(text: Part, bytes: &mut Data) -> Result<Line, TextFault>
+    ensures { ReadsLine (says (send text.entry.bytes.now)) result bytes.old bytes.new }
 {
     let count = put_text(text, bytes);
-    Line::Says(Cell::Send(Span { from: 0, count }))
+    Ok(Line::Says(Cell::Send(Span { from: 0, count })))
 }
 
 // A line that sends hex bytes.
-pub(crate) fn send_hex(text: &[u8], bytes: &mut Data) -> Line
-    requires { length text.now ≤ line_limit }
-    ensures { ReadsLine (send_says (hex_at text.now 0)) result bytes.old bytes.new }
+pub(crate) fn send_hex(text: Part, bytes: &mut Data) -> Result<Line, TextFault>
+    ensures { ReadsLine (send_says (hex_at text.entry.bytes.now 0)) result bytes.old bytes.new }
 {
-    match read_hex(text, bytes) {
-        Found::Bytes(count) => Line::Says(Cell::Send(Span { from: 0, count })),
-        Found::Bad(_) => Line::Faulty(TextFault::BadRest),
-    }
+    let count = read_hex(text, bytes)?;
+    Ok(Line::Says(Cell::Send(Span { from: 0, count })))
 }
 
 // WAIT DATA: marked data, not empty.
-pub(crate) fn wait_data(rest: &[u8], bytes: &mut Data) -> Line
-    requires { length rest.now ≤ line_limit }
-    ensures { ReadsLine (data_says (marked_data (skip rest.now))) result bytes.old
+pub(crate) fn wait_data(rest: Part, bytes: &mut Data) -> Result<Line, TextFault>
+    ensures { ReadsLine (data_says (marked_data (skip rest.entry.bytes.now))) result bytes.old
         bytes.new }
 {
-    let from = after_blanks(rest, 0);
-    match read_marked(&rest[from..], bytes) {
-        Found::Bytes(count) => {
-            if count == 0 {
-                return Line::Faulty(TextFault::BadRest);
-            }
-            Line::Says(Cell::WaitData(Span { from: 0, count }))
-        }
-        Found::Bad(_) => Line::Faulty(TextFault::BadRest),
+    let count = read_marked(rest.skip(), bytes)?;
+    if count == 0 {
+        return Err(TextFault::BadRest);
     }
+    Ok(Line::Says(Cell::WaitData(Span { from: 0, count })))
 }
 
 // OMIT: marked data.
-pub(crate) fn omit(rest: &[u8], bytes: &mut Data) -> Line
-    requires { length rest.now ≤ line_limit }
-    ensures { ReadsLine (omit_says (marked_data (skip rest.now))) result bytes.old
+pub(crate) fn omit(rest: Part, bytes: &mut Data) -> Result<Line, TextFault>
+    ensures { ReadsLine (omit_says (marked_data (skip rest.entry.bytes.now))) result bytes.old
         bytes.new }
 {
-    let from = after_blanks(rest, 0);
-    match read_marked(&rest[from..], bytes) {
-        Found::Bytes(count) => Line::Omit(count as u8),
-        Found::Bad(_) => Line::Faulty(TextFault::BadRest),
-    }
+    let count = read_marked(rest.skip(), bytes)?;
+    Ok(Line::Omit(count as u8))
 }
 
 // LOG: one space and text, or nothing.
-pub(crate) fn log(rest: &[u8], bytes: &mut Data) -> Line
-    requires { length rest.now ≤ line_limit }
-    ensures { ReadsLine (log_of rest.now) result bytes.old bytes.new }
+pub(crate) fn log(rest: Part, bytes: &mut Data) -> Result<Line, TextFault>
+    ensures { ReadsLine (log_of rest.entry.bytes.now) result bytes.old bytes.new }
 {
-    if rest.len() == 0 {
-        return Line::Says(Cell::Log(Span { from: 0, count: 0 }));
+    if rest.bytes.len() == 0 {
+        return Ok(Line::Says(Cell::Log(Span { from: 0, count: 0 })));
     }
-    if rest[0] != b' ' {
-        return Line::Faulty(TextFault::BadRest);
+    if rest.bytes[0] != b' ' {
+        return Err(TextFault::BadRest);
     }
-    let text = &rest[1..];
-    if right_signs(text) {
+    let text = rest.after(1);
+    if right_signs(text.bytes) {
         let count = put_text(text, bytes);
-        return Line::Says(Cell::Log(Span { from: 0, count }));
+        return Ok(Line::Says(Cell::Log(Span { from: 0, count })));
     }
-    Line::Faulty(TextFault::BadRest)
+    Err(TextFault::BadRest)
 }

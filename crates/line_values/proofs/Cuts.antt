@@ -1,14 +1,16 @@
 -- Parts of a slice and the places at which they are cut. Assumes nothing.
-use Prim.Native.Nat.{ℕ, suc, ◌+◌, ◌-◌, ◌≤◌}
+use Prim.Native.Nat.{ℕ, suc, ◌+◌, ◌-◌, ◌≤◌, ◌<◌}
 use mathlib.Core.Path.{◌≡◌, refl, sym, ap, ◌∙◌}
 use mathlib.Core.Bool.{Bool, true, false, cond, ◌&&◌}
 use mathlib.Core.List.{List, [], ◌∷◌}
 use native.Mathlib.Omega.{arith}
 use lib.Dec.{eqb, eqb-zero-suc, eqb-suc-suc}
-use lib.ListN.{length, take, drop, length-drop}
-use lib.Seq.{take_all, take-length, length-take-le}
+use lib.ListN.{length, take, drop, get_or, length-drop, drop_of_length-le}
+use lib.Seq.{take_all, length-take-le, drop-cons}
+use native.Mathlib.Numerals.{add-one}
+use borrow.Author.Tests.{eq-eqb, ne_eqb}
 use Rattle.reader.specs.Bytes.{is_blank, all, same}
-use Rattle.words.specs.Words.{skip, blanks, argument, word_of, after_word, after_blanks, word_end, trimmed_end, is_named}
+use Rattle.words.specs.Words.{skip, blanks, argument, word_of, after_word, after_blanks, word_end, trimmed_end}
 use Rattle.words.proofs.Places.{blanks_drop, blanks_within, word_drop, word_take, word_within, trim_take, trimmed_within}
 
 -- the part from a place to the end
@@ -17,11 +19,40 @@ to_end s n = take_all (length s - n) (drop n s) (simp length-drop (omega arith))
 
 -- ---- a name that is the whole word
 
-pub whole_named : (w name : List ℕ) → is_named w 0 (length w) name ≡ same w name
-unfolding is_named
-whole_named w name =
-    let e : length w - 0 ≡ length w = omega arith in
-    rw (e, take-length w)
+pub longer : (w name : List ℕ) → (length w ≡ length name → ⊥) → false ≡ same w name
+unfolding same
+longer [] [] h = absurd (h refl)
+longer [] (c ∷ l) h = refl
+longer (b ∷ w) [] h = refl
+longer (b ∷ w) (c ∷ l) h = go (eqb b c) (longer w l (λ e. h (ap suc e)))
+  where
+    go : (t : Bool) → false ≡ same w l → false ≡ (t && same w l)
+    go true e = e
+    go false e = refl
+
+-- the state of the loop: the bytes before `i` are the same
+pub record Alike (w name : List ℕ) (i : ℕ) : Type 0 where
+  pub whole : same w name ≡ same (drop i w) (drop i name)
+
+module _ {w name : List ℕ} {i : ℕ} (long : length w ≡ length name) (a : Alike w name i) where
+  module _ (more : i < length name) where
+    pub differs : (get_or w i 0 ≡ get_or name i 0 → ⊥) → false ≡ same w name
+    unfolding same
+    differs h =
+        let k : i < length w = omega (arith, long) in
+        sym (a.whole ∙ rw (drop-cons w i 0 k, drop-cons name i 0 more, ne_eqb _ _ h))
+
+    pub agrees : get_or w i 0 ≡ get_or name i 0 → Alike w name (i + 1)
+    unfolding same
+    agrees h =
+        let k : i < length w = omega (arith, long) in
+        record { whole = rw (add-one i) (a.whole ∙ rw (drop-cons w i 0 k, drop-cons name i 0 more, eq-eqb _ _ h)) }
+
+  pub compared : length name ≤ i → true ≡ same w name
+  unfolding same
+  compared h =
+      let k : length w ≤ i = omega (arith, long) in
+      sym (a.whole ∙ rw (drop_of_length-le w k, drop_of_length-le name h))
 
 -- ---- nothing but blanks
 

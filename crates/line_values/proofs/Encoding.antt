@@ -1,4 +1,5 @@
 -- ENCODE's byte: what each way on has found of the argument. Assumes nothing.
+use Rattle.std.specs.Prelude.{Ok, Err}
 use Prim.Native.Nat.{ℕ, ◌<◌}
 use mathlib.Core.Path.{◌≡◌, refl, sym, ap, ◌∙◌}
 use mathlib.Core.Bool.{cond}
@@ -10,8 +11,8 @@ use lib.Seq.{drop-cons}
 use borrow.Author.Tests.{eq-eqb, ne_eqb}
 use Rattle.numbers.specs.Inside.Moved.{moved_on}
 use Rattle.hex_data.specs.Hex.{hex_byte_at}
+use Rattle.numbers.specs.Number.{NumberRead}
 use Rattle.numbers.specs.declared.Number.{Number}
-use Rattle.numbers.specs.declared.Number.TheVariants.{Value, Bad}
 use Rattle.hex_data.proofs.Moved.{hex_byte_at_moved}
 use Rattle.language.specs.Script.{set_encode, fault}
 use Rattle.language.specs.declared.TextFault.TheVariants.{BadRest}
@@ -24,15 +25,15 @@ no_byte [] h = refl
 no_byte (b ∷ l) h = absurd (omega arith)
 
 -- the place after the byte does not matter
-hex_moved : (k : ℕ) (n : Number) → encode_hex (moved_on k n) ≡ encode_hex n
+hex_moved : (k : ℕ) (n : NumberRead) → encode_hex (moved_on k n) ≡ encode_hex n
 unfolding encode_hex moved_on
-hex_moved k (Value v next) = refl
-hex_moved k (Bad at) = refl
+hex_moved k (Ok n) = refl
+hex_moved k (Err at) = refl
 
-reads_moved : (P : ℕ → Type 0) (k : ℕ) (n : Number) → Reads P n → Reads P (moved_on k n)
+reads_moved : (P : ℕ → Type 0) (k : ℕ) (n : NumberRead) → Reads P n → Reads P (moved_on k n)
 unfolding moved_on
-reads_moved P k (Value v next) h = h
-reads_moved P k (Bad at) h = tt
+reads_moved P k (Ok n) h = h
+reads_moved P k (Err at) h = tt
 
 some_byte : (a : List ℕ) → (length a ≡ 0 → ⊥)
     → encode_of a
@@ -60,5 +61,5 @@ module _ (a : List ℕ) (some : length a ≡ 0 → ⊥) where
     pub itself : (get_or a 0 0 ≡ 47 → ⊥) → encode_of a ≡ set_encode (get_or a 0 0)
     itself m = some_byte a some ∙ rw (ne_eqb (get_or a 0 0) 58 n, ne_eqb (get_or a 0 0) 47 m)
 
-pub byte_fits : (a : List ℕ) {v next : ℕ} → Value v next ≡ hex_byte_at a 1 → v < 256
+pub byte_fits : (a : List ℕ) {n : Number} → Ok n ≡ hex_byte_at a 1 → n.value < 256
 byte_fits a e = rw (sym (e ∙ hex_byte_at_moved a 1)) at (reads_moved (λ v. v < 256) 1 (hex_byte_at (drop 1 a) 0) (hex_byte_reads (drop 1 a)))

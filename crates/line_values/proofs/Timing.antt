@@ -1,4 +1,5 @@
 -- Counts and times: what each way on has found of the argument. Assumes nothing.
+use Rattle.std.specs.Prelude.{Result, Ok, Err}
 use Prim.Native.Nat.{ℕ, zero, suc, ◌+◌, ◌-◌, ◌*◌, ◌≤◌, ◌<◌}
 use mathlib.Core.Path.{◌≡◌, refl, sym, ap, ◌∙◌}
 use mathlib.Core.Bool.{Bool, true, false, cond}
@@ -9,57 +10,55 @@ use lib.ListN.{length, take, drop}
 use borrow.Author.Tests.{le-leb, lt-leb, eq-eqb, ne_eqb}
 use Rattle.reader.specs.Ascii.{ascii}
 use Rattle.reader.specs.Bytes.{digit_of, same}
-use Rattle.numbers.specs.Number.{digits_ended, number_go, number_at}
+use Rattle.numbers.specs.Number.{NumberRead, value_at, digits_ended, number_go, number_at}
 use Rattle.numbers.specs.declared.Number.{Number}
-use Rattle.numbers.specs.declared.Number.TheVariants.{Value, Bad}
+use Rattle.language.specs.declared.TextFault.{TextFault}
 use Rattle.reader.proofs.Tests.{by_cases}
 use Rattle.reader.proofs.Same.{same_is}
 use Rattle.language.specs.declared.TextFault.TheVariants.{BadRest}
 use Rattle.language.specs.Script.{Statement, loop, wait_time, wait_byte, says, fault}
 use Rattle.language.specs.Meaning.{number_says, number, loop_of, byte_of, time_in, time_by, time_of}
-use Rattle.language.proofs.Reading.{Reads, number_reads}
+use Rattle.language.proofs.Reading.{number_reads}
 use Rattle.line_values.specs.Inside.WholeNumber.{whole}
 use Rattle.line_values.proofs.Cuts.{to_end}
 
 -- ---- a number with nothing after it
 
-module _ (a : List ℕ) {v next : ℕ} {n : Number} (told : Value v next ≡ n) where
-  pub all_read : next ≡ length a → Value v next ≡ whole a n
+module _ (a : List ℕ) {n : Number} {x : NumberRead} (told : Ok n ≡ x) where
+  pub all_read : n.next ≡ length a → Ok n.value ≡ whole a x
   unfolding whole
-  all_read e = rw (sym told, eq-eqb next (length a) e)
+  all_read e = rw (sym told, eq-eqb n.next (length a) e)
 
-  pub surplus : (next ≡ length a → ⊥) → Bad next ≡ whole a n
+  pub surplus : (n.next ≡ length a → ⊥) → Err BadRest ≡ whole a x
   unfolding whole
-  surplus e = rw (sym told, ne_eqb next (length a) e)
+  surplus e = rw (sym told, ne_eqb n.next (length a) e)
 
-value_choice : (t : Bool) (v next w at : ℕ) → Value v next ≡ cond t (Value w at) (Bad at) → (t ≡ true) × (v ≡ w)
-value_choice true v next w at e = (refl, cc)
-value_choice false v next w at e = let z : ◌≡◌ {A = ℕ} 0 1 = cc in absurd (omega arith)
+pub no_digits : (a : List ℕ) {at : ℕ} {x : NumberRead} → Err at ≡ x → Err BadRest ≡ whole a x
+unfolding whole
+no_digits a told = rw (sym told)
 
-bad_choice : (t : Bool) (k w at : ℕ) → Bad k ≡ cond t (Value w at) (Bad at) → t ≡ false
-bad_choice true k w at e = let z : ◌≡◌ {A = ℕ} 0 1 = cc in absurd (omega arith)
-bad_choice false k w at e = refl
+value_choice : (t : Bool) (v w : ℕ) → ◌≡◌ {A = Result ℕ TextFault} (Ok v) (cond t (Ok w) (Err BadRest)) → (t ≡ true) × (v ≡ w)
+value_choice true v w e = (refl, cc)
+value_choice false v w e = let z : ◌≡◌ {A = ℕ} 0 1 = cc in absurd (omega arith)
+
+fault_choice : (t : Bool) (f : TextFault) (w : ℕ) → ◌≡◌ {A = Result ℕ TextFault} (Err f) (cond t (Ok w) (Err BadRest)) → (t ≡ false) × (f ≡ BadRest)
+fault_choice true f w e = let z : ◌≡◌ {A = ℕ} 0 1 = cc in absurd (omega arith)
+fault_choice false f w e = (refl, cc)
 
 module _ (s : ℕ → Statement) (a : List ℕ) where
-  pub number_read : (n : Number) {v next : ℕ} → Value v next ≡ whole a n → number_says s a n ≡ says (s v)
+  pub number_read : (n : NumberRead) {v : ℕ} → Ok v ≡ whole a n → number_says s a n ≡ says (s v)
   unfolding number_says whole
-  number_read (Value w at) {v} {next} e =
-      let p = value_choice (eqb at (length a)) v next w at e in
+  number_read (Ok n) {v} e =
+      let p = value_choice (eqb n.next (length a)) v n.value e in
       rw p.0 (ap (λ (x : ℕ). says (s x)) (sym p.1))
-  number_read (Bad at) e = let z : ◌≡◌ {A = ℕ} 0 1 = cc in absurd (omega arith)
+  number_read (Err at) e = let z : ◌≡◌ {A = ℕ} 0 1 = cc in absurd (omega arith)
 
-  pub number_refused : (n : Number) {at : ℕ} → Bad at ≡ whole a n → number_says s a n ≡ fault BadRest
+  pub number_refused : (n : NumberRead) {f : TextFault} → Err f ≡ whole a n → number_says s a n ≡ fault f
   unfolding number_says whole
-  number_refused (Value w next) {at} e = rw (bad_choice (eqb next (length a)) at w next e)
-  number_refused (Bad at) e = refl
-
-whole_reads : (P : ℕ → Type 0) (a : List ℕ) (n : Number) → Reads P n → Reads P (whole a n)
-unfolding whole
-whole_reads P a (Value v next) h = by_cases (Reads P) (eqb next (length a)) (Value v next) (Bad next) (λ e. h) (λ e. tt)
-whole_reads P a (Bad at) h = tt
-
-pub number_small : (a : List ℕ) {v next : ℕ} → Value v next ≡ whole a (number_at 5 60000 a 0) → v ≤ 60000
-number_small a e = rw (sym e) at (whole_reads (λ v. v ≤ 60000) a (number_at 5 60000 a 0) (number_reads 5 60000 a 0))
+  number_refused (Ok n) {f} e =
+      let p = fault_choice (eqb n.next (length a)) f n.value e in
+      rw p.0 (ap fault (sym p.1))
+  number_refused (Err at) {f} e = let p : f ≡ BadRest = cc in ap fault (sym p)
 
 -- ---- LOOP and WAIT BYTE
 
@@ -125,18 +124,18 @@ module _ (u : List ℕ) (v : ℕ) where
 -- ---- a number and its unit
 
 -- the place after a number is within the bytes
-Ends : ℕ → Number → Type 0
-Ends k (Value v next) = next ≤ k
-Ends k (Bad at) = Unit {0}
+Ends : ℕ → NumberRead → Type 0
+Ends k (Ok n) = n.next ≤ k
+Ends k (Err at) = Unit {0}
 
-ends_later : (k m : ℕ) (n : Number) → k ≤ m → Ends k n → Ends m n
+ends_later : (k m : ℕ) (n : NumberRead) → k ≤ m → Ends k n → Ends m n
 unfolding Ends
-ends_later k m (Value v next) h e = omega arith
-ends_later k m (Bad at) h e = tt
+ends_later k m (Ok n) h e = omega arith
+ends_later k m (Err at) h e = tt
 
 ended_ends : (k n v at : ℕ) → at ≤ k → Ends k (digits_ended n v at)
 unfolding digits_ended Ends
-ended_ends k n v at h = by_cases (Ends k) (ltb 0 n) (Value v at) (Bad at) (λ e. h) (λ e. tt)
+ended_ends k n v at h = by_cases (Ends k) (ltb 0 n) (value_at v at) (Err at) (λ e. h) (λ e. tt)
 
 number_ends : (most limit : ℕ) (l : List ℕ) (n v at : ℕ) → Ends (at + length l) (number_go most limit l n v at)
 unfolding number_go Ends
@@ -145,25 +144,25 @@ number_ends most limit (b ∷ rest) n v at =
     let w : ℕ = v * 10 + digit_of b in
     let k : ℕ = at + suc (length rest) in
     by_cases (Ends k) (ltb (digit_of b) 10) _ (digits_ended n v at)
-    (λ e. by_cases (Ends k) (ltb n most) _ (Bad at)
-    (λ e₁. by_cases (Ends k) (leb w limit) (number_go most limit rest (n + 1) w (at + 1)) (Bad at)
+    (λ e. by_cases (Ends k) (ltb n most) _ (Err at)
+    (λ e₁. by_cases (Ends k) (leb w limit) (number_go most limit rest (n + 1) w (at + 1)) (Err at)
     (λ e₂. ends_later (at + 1 + length rest) k (number_go most limit rest (n + 1) w (at + 1)) (omega arith) (number_ends most limit rest (n + 1) w (at + 1)))
     (λ e₂. tt)) (λ e₁. tt))
     (λ e. ended_ends k n v at (omega arith))
 
-module _ (a : List ℕ) {v next : ℕ} (told : Value v next ≡ number_at 5 60000 a 0) where
-  pub time_small : v ≤ 60000
+module _ (a : List ℕ) {n : Number} (told : Ok n ≡ number_at 5 60000 a 0) where
+  pub time_small : n.value ≤ 60000
   time_small = rw (sym told) at (number_reads 5 60000 a 0)
 
-  pub time_within : next ≤ length a
+  pub time_within : n.next ≤ length a
   unfolding number_at Ends
-  time_within = let h : Ends (0 + length a) (Value v next) = rw (sym told) at (number_ends 5 60000 a 0 0 0) in omega arith
+  time_within = let h : Ends (0 + length a) (Ok n) = rw (sym told) at (number_ends 5 60000 a 0 0 0) in omega arith
 
-  pub time_number : time_of a ≡ time_in (take (length a - next) (drop next a)) v
+  pub time_number : time_of a ≡ time_in (take (length a - n.next) (drop n.next a)) n.value
   unfolding time_of time_by
-  time_number = rw (sym told, to_end a next)
+  time_number = rw (sym told, to_end a n.next)
 
-module _ (a : List ℕ) {at : ℕ} (told : Bad at ≡ number_at 5 60000 a 0) where
+module _ (a : List ℕ) {at : ℕ} (told : Err at ≡ number_at 5 60000 a 0) where
   pub no_number : at ≡ 0 → time_of a ≡ time_in a 1
   unfolding time_of time_by
   no_number e = rw (sym told, e)
@@ -172,6 +171,6 @@ module _ (a : List ℕ) {at : ℕ} (told : Bad at ≡ number_at 5 60000 a 0) whe
   unfolding time_of
   bad_number h = ap (time_by a) (sym told) ∙ go at h
     where
-      go : (k : ℕ) → (k ≡ 0 → ⊥) → time_by a (Bad k) ≡ fault BadRest
+      go : (k : ℕ) → (k ≡ 0 → ⊥) → time_by a (Err k) ≡ fault BadRest
       go zero h = absurd (h refl)
       go (suc k) h = unfold time_by in refl

@@ -1,182 +1,90 @@
 // WAIT CLOCK: a unit, and two digits for it and each shorter one.
 ghost use Rattle.std.specs.Prelude.{◌≤◌, ◌≡◌, drop};
-ghost use Rattle.language.specs.Clock.{range, second_on, minute_on, hour_on, day_on, fill, from, clock_of};
-ghost use Rattle.language.specs.Cell.{clock};
+ghost use Rattle.language.specs.Clock.{range, day_on, fill, from, clock_of};
 ghost use Rattle.language.specs.Meaning.{clock_says};
 ghost use Rattle.line_values.specs.Inside.Line.{line_from};
-ghost use Rattle.line_values.specs.Inside.ClockUnits.{unit_at, clock_part, clock_read, second_in, minute_in, hour_in};
+ghost use Rattle.line_values.specs.Inside.ClockUnits.{unit_at, clock_read};
 
 use crate::Line;
 use language::{Cell, Clock, TextFault};
-use numbers::Number;
 use numbers::decimal::pair;
 
-// A value of a clock's unit, or the place of the first byte that cannot be taken.
-#[derive(Clone, Copy)]
-enum UnitValue {
-    Of(u8),
-    Bad(usize),
-}
+// How many units there are: day, hour, minute and second, the longest first.
+const UNITS: usize = 4;
 
-// A clock value, or the place of the first byte that cannot be taken.
-#[derive(Clone, Copy)]
-pub enum ClockRead {
-    Of(Clock),
-    Bad(usize),
-}
+// The least and the largest value of each.
+const RANGES: [(u8, u8); UNITS] = [(1, 31), (0, 23), (0, 59), (0, 59)];
 
-// So many fixed units, each 0.
-fn zeros(fixed: u8) -> Clock
-    ensures { result ≡ clock fixed 0 0 0 0 }
-{
-    Clock {
-        fixed,
-        day: 0,
-        hour: 0,
-        minute: 0,
-        second: 0,
-    }
-}
-
-// The value of a unit from a place on, 0 where it is left out.
-fn unit(digits: &[u8], at: usize, low: u8, high: u8) -> UnitValue
+// The value of a unit from a place on, 0 where it is left out; or the place of the first byte that cannot be taken.
+fn unit(digits: &[u8], at: usize, low: u8, high: u8) -> Result<u8, usize>
     ensures { result ≡ unit_at (range low high) (drop at digits.now) at }
 {
     if digits.len() <= at {
-        return UnitValue::Of(0);
+        return Ok(0);
     }
-    match pair(digits, at, low, high) {
-        Number::Value(v, _) => UnitValue::Of(v as u8),
-        Number::Bad(place) => UnitValue::Bad(place),
-    }
+    let read = pair(digits, at, low, high)?;
+    Ok(read.value as u8)
 }
 
-// The second, with nothing after it, beside the longer units.
-fn second_on(digits: &[u8], at: usize, mut value: Clock) -> ClockRead
-    requires { at ≤ 7 }
-    ensures { result ≡ clock_part (second_in value) (fill second_on (drop at digits.now) at) }
+// The values of the unit `first` and of each shorter one, with nothing after them.
+fn units(digits: &[u8], start: usize, first: usize) -> Result<Clock, usize>
+    requires early { start ≤ 1 }
+    requires unit { first ≤ 4 }
+    ensures { result ≡ clock_read (fill (drop first day_on) (drop start digits.now) start) }
 {
-    match unit(digits, at, 0, 59) {
-        UnitValue::Of(second) => {
-            let end = at + 2;
-            if end < digits.len() {
-                return ClockRead::Bad(end);
-            }
-            value.second = second;
-            ClockRead::Of(value)
-        }
-        UnitValue::Bad(place) => ClockRead::Bad(place),
+    let mut values = [0u8; UNITS];
+    let mut at = start;
+    for i in first..UNITS {
+        let (low, high) = RANGES[i];
+        values[i] = unit(digits, at, low, high)?;
+        at += 2;
     }
+    if at < digits.len() {
+        return Err(at);
+    }
+    Ok(Clock {
+        fixed: (UNITS - first) as u8,
+        day: values[0],
+        hour: values[1],
+        minute: values[2],
+        second: values[3],
+    })
 }
 
-// The minute and the second.
-fn minute_on(digits: &[u8], at: usize, mut value: Clock) -> ClockRead
-    requires { at ≤ 5 }
-    ensures { result ≡ clock_part (minute_in value) (fill minute_on (drop at digits.now) at) }
+// The values from the unit `first` on: with no digits that unit matches all too.
+fn fixed_from(digits: &[u8], start: usize, first: usize) -> Result<Clock, usize>
+    requires early { start ≤ 1 }
+    requires unit { first ≤ 3 }
+    ensures { result ≡ clock_read (from (drop first day_on) (drop start digits.now) start) }
 {
-    match unit(digits, at, 0, 59) {
-        UnitValue::Of(minute) => {
-            value.minute = minute;
-            second_on(digits, at + 2, value)
-        }
-        UnitValue::Bad(place) => ClockRead::Bad(place),
+    if digits.len() <= start {
+        return units(digits, start, first + 1);
     }
+    units(digits, start, first)
 }
 
-// The hour and what is shorter.
-fn hour_on(digits: &[u8], at: usize, mut value: Clock) -> ClockRead
-    requires { at ≤ 3 }
-    ensures { result ≡ clock_part (hour_in value) (fill hour_on (drop at digits.now) at) }
-{
-    match unit(digits, at, 0, 23) {
-        UnitValue::Of(hour) => {
-            value.hour = hour;
-            minute_on(digits, at + 2, value)
-        }
-        UnitValue::Bad(place) => ClockRead::Bad(place),
-    }
-}
-
-// After `D`, with the digits from a place on: with none the day matches all.
-fn from_day(digits: &[u8], at: usize) -> ClockRead
-    requires { at ≤ 1 }
-    ensures { result ≡ clock_read (from day_on (drop at digits.now) at) }
-{
-    if digits.len() <= at {
-        return ClockRead::Of(zeros(3));
-    }
-    let mut value = zeros(4);
-    match unit(digits, at, 1, 31) {
-        UnitValue::Of(day) => {
-            value.day = day;
-            hour_on(digits, at + 2, value)
-        }
-        UnitValue::Bad(place) => ClockRead::Bad(place),
-    }
-}
-
-// After `h`, or with no unit.
-fn from_hour(digits: &[u8], at: usize) -> ClockRead
-    requires { at ≤ 1 }
-    ensures { result ≡ clock_read (from hour_on (drop at digits.now) at) }
-{
-    if digits.len() <= at {
-        return ClockRead::Of(zeros(2));
-    }
-    hour_on(digits, at, zeros(3))
-}
-
-// After `m`.
-fn from_minute(digits: &[u8], at: usize) -> ClockRead
-    requires { at ≤ 1 }
-    ensures { result ≡ clock_read (from minute_on (drop at digits.now) at) }
-{
-    if digits.len() <= at {
-        return ClockRead::Of(zeros(1));
-    }
-    minute_on(digits, at, zeros(2))
-}
-
-// After `s`.
-fn from_second(digits: &[u8], at: usize) -> ClockRead
-    requires { at ≤ 1 }
-    ensures { result ≡ clock_read (from second_on (drop at digits.now) at) }
-{
-    if digits.len() <= at {
-        return ClockRead::Of(zeros(0));
-    }
-    second_on(digits, at, zeros(1))
-}
-
-// The unit, D, h, m or s, and the digits: places count from the argument's first byte.
-pub fn clock_value(argument: &[u8]) -> ClockRead
+// The unit, D, h, m or s, and the digits; or the place of the first byte that cannot be taken, counted from the argument's first.
+pub fn clock_value(argument: &[u8]) -> Result<Clock, usize>
     ensures { result ≡ clock_read (clock_of argument.now) }
 {
     if argument.len() == 0 {
-        return from_hour(argument, 0);
+        return fixed_from(argument, 0, 1);
     }
-    let first = argument[0];
-    if first == b'D' {
-        return from_day(argument, 1);
+    match argument[0] {
+        b'D' => fixed_from(argument, 1, 0),
+        b'h' => fixed_from(argument, 1, 1),
+        b'm' => fixed_from(argument, 1, 2),
+        b's' => fixed_from(argument, 1, 3),
+        _ => fixed_from(argument, 0, 1),
     }
-    if first == b'h' {
-        return from_hour(argument, 1);
-    }
-    if first == b'm' {
-        return from_minute(argument, 1);
-    }
-    if first == b's' {
-        return from_second(argument, 1);
-    }
-    from_hour(argument, 0)
 }
 
 // WAIT CLOCK: what its value says.
-pub fn wait_clock(argument: &[u8]) -> Line
+pub fn wait_clock(argument: &[u8]) -> Result<Line, TextFault>
     ensures { result ≡ line_from (clock_says (clock_of argument.now)) }
 {
     match clock_value(argument) {
-        ClockRead::Of(value) => Line::Says(Cell::WaitClock(value)),
-        ClockRead::Bad(_) => Line::Faulty(TextFault::BadRest),
+        Ok(value) => Ok(Line::Says(Cell::WaitClock(value))),
+        Err(_) => Err(TextFault::BadRest),
     }
 }

@@ -1,20 +1,12 @@
 // What follows a name, read in code; and what a line is told as.
 #![tactic(auto)]
 
-use language::{Cell, TextFault};
+use language::{Cell, LETTER_PLACES};
 
 pub mod clocks;
 pub mod parts;
 pub mod settings;
 pub mod times;
-
-// The letters of LFEXT, made capital, with zeros after them.
-#[derive(Clone, Copy)]
-pub struct Letters {
-    pub first: u8,
-    pub second: u8,
-    pub third: u8,
-}
 
 // What a line means. A statement is told by the cell it has where its data begin at place 0 of the pool; its data, and those of
 // OMIT, stand at the front of the lent buffer.
@@ -28,6 +20,6 @@ pub enum Line {
     Encode(u8),
     Stopbits(bool),
     Omit(u8),
-    Lfext(Letters),
-    Faulty(TextFault),
+    // The letters, made capital, with zeros after them.
+    Lfext([u8; LETTER_PLACES]),
 }

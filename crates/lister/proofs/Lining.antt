@@ -1,5 +1,7 @@
 -- The listing, line by line. Assumes nothing.
-use Prim.Native.Nat.{ℕ, zero, suc, ◌+◌, ◌≤◌, ◌<◌}
+use Prim.Native.Nat.{ℕ, zero, suc, ◌+◌, ◌-◌, ◌≤◌, ◌<◌, min}
+use Rattle.std.proofs.lemmas.List.{drop-take}
+use Rattle.accepted.proofs.EndsFit.{drop_clip, take_clip}
 use mathlib.Core.Path.{◌≡◌, refl, sym, ap, ap₂, ◌∙◌}
 use mathlib.Core.Bool.{Bool, true, false, ◌&&◌}
 use mathlib.Core.List.{List, [], ◌∷◌, ◌++◌, append_assoc, append-nil}
@@ -39,51 +41,42 @@ statement_first s is = sym (append_assoc (line_for s) (13 ∷ 10 ∷ []) (with_l
 
 -- ---- the cells
 
-module _ (pool ws : List ℕ) (e i : ℕ) where
-  inner : i < length ws → i < e → i < length (take e ws)
-  inner h k = simp length-take (omega arith)
-
-  pub cells_on : i < length ws → i < e
-      → printed_items (items_of pool (drop i (take e ws))) ≡ line_ended (word_line pool (get_or ws i 0)) ++ printed_items (items_of pool (drop (i + 1) (take e ws)))
+module _ (pool es : List ℕ) (i : ℕ) where
+  pub cells_on : i < length es → printed_items (items_of pool (drop i es)) ≡ line_ended (word_line pool (get_or es i 0)) ++ printed_items (items_of pool (drop (i + 1) es))
   unfolding items_of
-  cells_on h k =
-      let more : i < length (take e ws) = inner h k in
-      rw (add-one i, drop-cons (take e ws) i 0 more, get_or-take e ws i 0 k) (statement_first (statement_of pool (decoded (get_or ws i 0))) (items_of pool (drop (suc i) (take e ws))))
+  cells_on h = rw (add-one i, drop-cons es i 0 h) (statement_first (statement_of pool (decoded (get_or es i 0))) (items_of pool (drop (suc i) es)))
 
-  pub cells_enough : e ≤ i → printed_items (items_of pool (drop i (take e ws))) ≡ []
+  pub cells_past : length es ≤ i → printed_items (items_of pool (drop i es)) ≡ []
   unfolding items_of printed_items item_lines with_line_ends
-  cells_enough h = let l : length (take e ws) ≤ i = simp length-take (omega arith) in rw (drop_of_length-le (take e ws) l)
+  cells_past h = rw (drop_of_length-le es h)
 
-  pub cells_past : length ws ≤ i → printed_items (items_of pool (drop i (take e ws))) ≡ []
-  unfolding items_of printed_items item_lines with_line_ends
-  cells_past h = let l : length (take e ws) ≤ i = simp length-take (omega arith) in rw (drop_of_length-le (take e ws) l)
+-- the part of a list between two places, cut off where it ends
+pub part_is : (l : List ℕ) (from end f e : ℕ) → e ≡ min end (length l) → f ≡ min from e → take (e - f) (drop f l) ≡ drop from (take end l)
+part_is l from end f e last first =
+    let parts : f + (e - f) ≡ e = omega arith in
+    sym (drop-take f (e - f) l) ∙ (rw parts (drop_clip from f (take e l) (omega (arith, length-take e l)) ∙ ap (drop from) (take_clip end e l last)))
 
 -- ---- the processes after the first
 
 -- what is left of them, the next end being the ith
-abbrev pub others : List ℕ → List ℕ → List ℕ → ℕ → ℕ → ℕ → List ℕ
-others pool ws ends n from i = printed_items (further pool ws from (drop i (take n ends)))
+abbrev pub others : List ℕ → List ℕ → List ℕ → ℕ → ℕ → List ℕ
+others pool ws es from i = printed_items (further pool ws from (drop i es))
 
 process_first : (is : List Item) → printed_items (next ∷ is) ≡ printed_items (next ∷ []) ++ printed_items is
 process_first is = printed_append (next ∷ []) is
 
-module _ (pool ws ends : List ℕ) (n from i : ℕ) where
-  pub others_on : i < length ends → i < n → {e : ℕ} → e ≡ get_or ends i 0
-      → others pool ws ends n from i ≡ printed_items (next ∷ []) ++ (printed_cells pool ws from e ++ others pool ws ends n e (i + 1))
+module _ (pool ws es : List ℕ) (from i : ℕ) where
+  pub others_on : i < length es → {e : ℕ} → e ≡ get_or es i 0
+      → others pool ws es from i ≡ printed_items (next ∷ []) ++ (printed_cells pool ws from e ++ others pool ws es e (i + 1))
   unfolding further
-  others_on h k {e} is =
-      let more : i < length (take n ends) = simp length-take (omega arith) in
-      rw (add-one i, drop-cons (take n ends) i 0 more, get_or-take n ends i 0 k, sym is)
-      (process_first (items_of pool (slice from e ws) ++ further pool ws e (drop (suc i) (take n ends)))
-      ∙ ap (λ (k : List ℕ). printed_items (next ∷ []) ++ k) (printed_append (items_of pool (slice from e ws)) (further pool ws e (drop (suc i) (take n ends)))))
+  others_on h {e} is =
+      rw (add-one i, drop-cons es i 0 h, sym is)
+      (process_first (items_of pool (slice from e ws) ++ further pool ws e (drop (suc i) es))
+      ∙ ap (λ (k : List ℕ). printed_items (next ∷ []) ++ k) (printed_append (items_of pool (slice from e ws)) (further pool ws e (drop (suc i) es))))
 
-  pub others_enough : n ≤ i → others pool ws ends n from i ≡ []
+  pub others_past : length es ≤ i → others pool ws es from i ≡ []
   unfolding further printed_items item_lines with_line_ends
-  others_enough h = let l : length (take n ends) ≤ i = simp length-take (omega arith) in rw (drop_of_length-le (take n ends) l)
-
-  pub others_past : length ends ≤ i → others pool ws ends n from i ≡ []
-  unfolding further printed_items item_lines with_line_ends
-  others_past h = let l : length (take n ends) ≤ i = simp length-take (omega arith) in rw (drop_of_length-le (take n ends) l)
+  others_past h = rw (drop_of_length-le es h)
 
 -- ---- the body
 
@@ -145,7 +138,7 @@ module _ (pool ws : List ℕ) (h : Heads) (cells : 0 < length ws) (ends : length
   empty = rw (follows, is)
 
   pub body_parts : {t : Bool} → t ≡ first_empty h
-      → printed_first t ++ (printed_cells pool ws 0 e ++ others pool ws h.ends h.processes e 1) ≡ printed_body pool ws (ends_of h)
+      → printed_first t ++ (printed_cells pool ws 0 e ++ printed_items (further pool ws e (drop 1 (ends_of h)))) ≡ printed_body pool ws (ends_of h)
   unfolding printed_body
   body_parts {t} told =
       let items : List Item = items_of pool (slice 0 e ws) ++ further pool ws e es in

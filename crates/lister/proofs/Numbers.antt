@@ -1,4 +1,5 @@
 -- THE LISTER'S TWO REFUSALS HAVE TWO NUMBERS, document 01's: 25, then 26. Assumes nothing.
+use Rattle.std.specs.Prelude.{Ok, Err}
 use Prim.Native.Nat.{ℕ}
 use mathlib.Core.Path.{◌≡◌, refl, sym, ap, ◌∙◌}
 use mathlib.Core.Bool.{cond}
@@ -13,7 +14,6 @@ use Rattle.language.proofs.Opened.{printed}
 use Rattle.accepted.proofs.Examples.{zeros_unaccepted, nop_table, nop_accepted}
 use Rattle.lister.specs.declared.ListRefusal.{ListRefusal}
 use Rattle.lister.specs.declared.ListRefusal.TheVariants.{BadTable, NoRoom}
-use Rattle.lister.specs.declared.Listed.TheVariants.{Wrote, Refused}
 use Rattle.lister.specs.Listed.{list_answer, list_into, list_refusal_number}
 
 the_numbers : map list_refusal_number (BadTable ∷ NoRoom ∷ []) ≡ 25 ∷ 26 ∷ []
@@ -33,15 +33,15 @@ pub list_numbers_differ : (r s : ListRefusal) → list_refusal_number r ≡ list
 list_numbers_differ r s e = sym (told r) ∙ ap refusal_of e ∙ told s
 
 -- "The lister tests 25, then 26": the table of zeros is 25 whatever the buffer, and the buffer is left as it was
-pub zeros_are_refused : (out : List ℕ) → (list_answer zero_table out ≡ Refused BadTable) × (list_into zero_table out ≡ out)
+pub zeros_are_refused : (out : List ℕ) → (list_answer zero_table out ≡ Err BadTable) × (list_into zero_table out ≡ out)
 unfolding list_answer list_into
 zeros_are_refused out = (rw zeros_unaccepted, rw zeros_unaccepted)
 
 -- "listing buffer too small": `#NOP`, CR and LF are 6 bytes
-small_buffer : (list_answer nop_table (replicate 5 0) ≡ Refused NoRoom) × (list_into nop_table (replicate 5 0) ≡ replicate 5 0)
+small_buffer : (list_answer nop_table (replicate 5 0) ≡ Err NoRoom) × (list_into nop_table (replicate 5 0) ≡ replicate 5 0)
 unfolding list_answer list_into printed cell.cell_of cell.decoded table.settings_of table.letters_of table.statement_of table.items_of table.body_from table.script_of
 small_buffer = (rw nop_accepted, rw nop_accepted)
 
-buffer_of_six : (list_answer nop_table (replicate 6 0) ≡ Wrote 6) × (list_into nop_table (replicate 6 0) ≡ ascii "#NOP\r\n")
+buffer_of_six : (list_answer nop_table (replicate 6 0) ≡ Ok 6) × (list_into nop_table (replicate 6 0) ≡ ascii "#NOP\r\n")
 unfolding list_answer list_into printed cell.cell_of cell.decoded table.settings_of table.letters_of table.statement_of table.items_of table.body_from table.script_of
 buffer_of_six = (rw nop_accepted, rw nop_accepted)

@@ -1,26 +1,19 @@
 -- Which bytes are plain, and which data stand in hex. Assumes nothing.
-use Prim.Native.Nat.{ℕ, ◌*◌, ◌≤◌, ◌<◌}
-use mathlib.Core.Path.{◌≡◌, sym, ◌∙◌}
-use mathlib.Core.Bool.{Bool, true, false}
-use mathlib.Core.List.{List}
+use Rattle.std.specs.List.{list_all}
+use Prim.Native.Nat.{ℕ, ◌*◌}
+use mathlib.Core.Path.{◌≡◌, refl, sym, ap, ◌∙◌}
+use mathlib.Core.Bool.{Bool, true, false, ◌&&◌}
+use mathlib.Core.List.{List, [], ◌∷◌}
 use lib.Dec.{leb}
 use lib.ListN.{length}
-use borrow.Author.Tests.{le-leb, lt-leb}
 use Rattle.reader.specs.Bytes.{all}
 use Rattle.language.specs.Listing.{is_plain, in_hex}
 
-module _ (b : ℕ) where
-  pub too_low : b < 32 → is_plain b ≡ false
-  unfolding is_plain
-  too_low h = rw (lt-leb 32 b h)
-
-  pub too_high : 32 ≤ b → 126 < b → is_plain b ≡ false
-  unfolding is_plain
-  too_high h k = rw (le-leb 32 b h, lt-leb b 126 k)
-
-  pub is_plain_lem : 32 ≤ b → b ≤ 126 → is_plain b ≡ true
-  unfolding is_plain
-  is_plain_lem h k = rw (le-leb 32 b h, le-leb b 126 k)
+-- every byte is plain, in the words of std
+pub plain_all : (bs : List ℕ) → list_all (λ (b : ℕ). leb 32 b && leb b 126) bs ≡ all is_plain bs
+unfolding is_plain
+plain_all [] = refl
+plain_all (b ∷ bs) = ap (λ (t : Bool). (leb 32 b && leb b 126) && t) (plain_all bs)
 
 module _ (room : ℕ) (bs : List ℕ) {t : Bool} (told : t ≡ all is_plain bs) where
   pub plain_text : t ≡ true → false ≡ in_hex room bs

@@ -1,4 +1,5 @@
 -- SUCCESS WRITES ONLY THE BYTES IT REPORTS, AND A REFUSAL NONE. Assumes nothing.
+use Rattle.std.specs.Prelude.{Ok, Err}
 use Prim.Native.Nat.{ℕ, ◌+◌, ◌≤◌}
 use mathlib.Core.Path.{◌≡◌, refl, ◌∙◌}
 use mathlib.Core.Bool.{Bool, true, false, cond}
@@ -13,7 +14,6 @@ use Rattle.accepted.specs.Accepted.{table_right}
 use Rattle.lister.specs.Listed.{listing_of, list_answer, list_into}
 use Rattle.lister.specs.declared.ListRefusal.{ListRefusal}
 use Rattle.lister.specs.declared.ListRefusal.TheVariants.{BadTable, NoRoom}
-use Rattle.lister.specs.declared.Listed.TheVariants.{Wrote, Refused}
 
 module _ (t : Table) (d : List ℕ) (right : table_right t ≡ true) (room : length (listing_of t) ≤ length d) where
   in_front_lem : list_into t d ≡ listing_of t ++ drop (length (listing_of t)) d
@@ -29,11 +29,11 @@ module _ (t : Table) (d : List ℕ) (right : table_right t ≡ true) (room : len
   pub behind_kept : drop (length (listing_of t)) (list_into t d) ≡ drop (length (listing_of t)) d
   behind_kept = rw in_front_lem (drop_at (listing_of t) _ (length (listing_of t)) refl)
 
-pub refusal_keeps : (t : Table) (d : List ℕ) (w : ListRefusal) → list_answer t d ≡ Refused w → list_into t d ≡ d
+pub refusal_keeps : (t : Table) (d : List ℕ) (w : ListRefusal) → list_answer t d ≡ Err w → list_into t d ≡ d
 unfolding list_answer list_into
 refusal_keeps t d w = go (table_right t) (leb (length (listing_of t)) (length d))
   where
-    go : (a b : Bool) → cond a (cond b (Wrote (length (listing_of t))) (Refused NoRoom)) (Refused BadTable) ≡ Refused w
+    go : (a b : Bool) → cond a (cond b (Ok (length (listing_of t))) (Err NoRoom)) (Err BadTable) ≡ Err w
         → cond a (cond b (sets d 0 (listing_of t)) d) d ≡ d
     go true true e = let z : ◌≡◌ {A = ℕ} 0 1 = cc in absurd (omega arith)
     go true false e = refl

@@ -4,16 +4,14 @@ use mathlib.Core.Path.{◌≡◌, refl, sym, ◌∙◌}
 use mathlib.Core.Bool.{Bool, true, false, not}
 use mathlib.Core.List.{List, [], ◌∷◌, ◌++◌}
 use native.Mathlib.Omega.{arith}
-use lib.ListN.{length, take, drop, length-take}
+use lib.ListN.{length, length-take}
 use borrow.Author.Tests.{leb-true, le-leb, lt-leb, eq-eqb, ne_eqb}
 use Rattle.reader.specs.Ascii.{ascii}
 use Rattle.reader.specs.Bytes.{all}
 use Rattle.writer.specs.Hex.{capital, hex_text}
 use Rattle.writer.specs.Put.{decimal}
 use Rattle.reader.proofs.Tests.{both_right}
-use Rattle.language.specs.declared.Span.{Span}
 use Rattle.language.specs.Listing.{is_plain, in_hex, front_of, last_of, last_in_one, short_hex, data_text, count_text, time_text, on_text, signal_text, log_text}
-use Rattle.language.specs.Table.{data_at}
 use Rattle.language.proofs.LastDigit.{one_over, last_small}
 use Rattle.lister.specs.Inside.Printed.{FitsListing}
 use Rattle.lister.proofs.Printing.{room_is, first_room, then_room}
@@ -67,10 +65,6 @@ module _ (bs : List ℕ) where
 
       pub digit_room : {r : ℕ} → r ≡ at + length (hex_text (front_of bs)) → FitsListing r (capital (last_of bs % 16) ∷ [])
       digit_room e = then_room (hex_text (front_of bs)) (capital (last_of bs % 16) ∷ []) both_room e
-
--- a part of the pool
-pub held : (pool : List ℕ) (s : Span) {f n : ℕ} → f ≡ s.from → n ≡ s.count → take (f + n - f) (drop f pool) ≡ data_at pool s
-held pool s {f} {n} from count = let e : f + n - f ≡ s.count = omega arith in rw (e, from)
 
 module _ (bs : List ℕ) where
   pub log_empty : length bs ≡ 0 → ascii "#LOG" ≡ log_text bs

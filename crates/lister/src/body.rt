@@ -1,5 +1,5 @@
 // The lines of the processes.
-ghost use Rattle.std.specs.Prelude.{◌∷◌, [], drop, take};
+ghost use Rattle.std.specs.Prelude.{◌∷◌, []};
 ghost use Rattle.language.specs.Script.{next};
 ghost use Rattle.accepted.specs.Inside.Heads.{ends_of};
 ghost use Rattle.lister.specs.Inside.Printed.{FitsListing, Printed, printed_items, printed_cells, further, printed_first, printed_body};
@@ -7,8 +7,7 @@ ghost use Rattle.lister.specs.Inside.Printed.{FitsListing, Printed, printed_item
 use crate::statements::line;
 use crate::text::put;
 use accepted::settings::first_empty;
-use language::{Cells, Heads, Pool};
-use reader::widths::wide;
+use language::{Cells, Heads, PROCESSES, Pool};
 
 // The lines of the cells from one place to another.
 fn cell_lines<'a>(
@@ -23,15 +22,10 @@ fn cell_lines<'a>(
     ensures { Printed (printed_cells pool.now cells.now from end) out.old at result
         out.new }
 {
-    let words: &[u32] = cells;
+    let last = end.min(cells.len());
     let mut place = at;
-    let mut i = from;
-    while i < words.len() {
-        if end <= i {
-            return place;
-        }
-        place = line(out, place, pool, words[i]);
-        i += 1;
+    for w in &cells[from.min(last)..last] {
+        place = line(out, place, pool, *w);
     }
     place
 }
@@ -44,34 +38,27 @@ fn process_line(out: &mut [u8], at: usize) -> usize
     put(out, at, b"#PROCESS\r\n")
 }
 
-// The lines of the processes after the first, each with its PROCESS line.
+// The lines of the processes after the first, each with its PROCESS line, by their ends.
 fn others<'a>(
     out: &mut [u8],
     at: usize,
     cells: &'a Cells,
     pool: &'a Pool,
     ends: &'a [u16],
-    processes: usize,
     first: usize,
 ) -> usize
     requires { FitsListing at
-        (printed_items (further pool.now cells.now first (drop 1 (take processes ends.now)))) }
-    ensures { Printed (printed_items
-        (further pool.now cells.now first (drop 1 (take processes ends.now))))
-        out.old at result out.new }
+        (printed_items (further pool.now cells.now first ends.now)) }
+    ensures { Printed (printed_items (further pool.now cells.now first ends.now)) out.old
+        at result out.new }
 {
     let mut place = at;
     let mut from = first;
-    let mut i = 1usize;
-    while i < ends.len() {
-        if processes <= i {
-            return place;
-        }
-        let end = wide(ends[i]);
+    for end in ends {
+        let end = usize::from(*end);
         let begun = process_line(out, place);
         place = cell_lines(out, begun, cells, pool, from, end);
         from = end;
-        i += 1;
     }
     place
 }
@@ -99,14 +86,12 @@ pub(crate) fn body<'a>(
     ensures { Printed (printed_body pool.now cells.now (ends_of heads)) out.old
         at result out.new }
 {
-    let words: &[u32] = cells;
-    let ends = heads.ends;
-    let processes = heads.processes as usize;
+    let processes = usize::from(heads.processes).min(PROCESSES);
     if processes == 0 {
         return at;
     }
-    let first = wide(ends[0]);
+    let first = usize::from(heads.ends[0]);
     let begun = first_line(out, at, first_empty(heads));
     let next = cell_lines(out, begun, cells, pool, 0, first);
-    others(out, next, cells, pool, &ends, processes, first)
+    others(out, next, cells, pool, &heads.ends[1..processes], first)
 }

@@ -7,26 +7,12 @@ ghost use Rattle.language.specs.Listing.{is_plain, in_hex};
 fn all_plain(text: &[u8]) -> bool
     ensures { result ≡ all is_plain text.now }
 {
-    let mut i = 0usize;
-    while i < text.len() {
-        let b = text[i];
-        if b < 32 {
-            return false;
-        }
-        if 126 < b {
-            return false;
-        }
-        i += 1;
-    }
-    true
+    text.iter().all(|b| 32 <= *b && *b <= 126)
 }
 
 /// "Data in hex .. where a byte lies outside 20h to 7Eh and the line fits in 127": `room` is what the line has left after the mark.
 pub(crate) fn in_hex(text: &[u8], room: usize) -> bool
     ensures { result ≡ in_hex room text.now }
 {
-    if all_plain(text) {
-        return false;
-    }
-    text.len() * 2 <= room
+    !all_plain(text) && text.len() * 2 <= room
 }

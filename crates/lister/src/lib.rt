@@ -18,31 +18,28 @@ mod statements;
 mod text;
 
 // Why there is no listing: no accepted script has this table (25), or the buffer is too small (26).
-#[derive(Clone, Copy)]
+#[derive(Clone, Copy, PartialEq, Eq, Debug)]
 pub enum ListRefusal {
     BadTable,
     NoRoom,
 }
 
-// How many bytes the listing has, or why there is none.
-#[derive(Clone, Copy)]
-pub enum Listed {
-    Wrote(usize),
-    Refused(ListRefusal),
-}
-
-/// Writes the listing of a table's script; or refuses, first a table that no accepted script has, then a buffer that is too small.
-pub fn list<'a>(cells: &'a Cells, pool: &'a Pool, heads: Heads, out: &mut [u8]) -> Listed
+/// Writes the listing of a table's script: how many bytes it has; or refuses, first a table that no accepted script has, then a buffer that is too small.
+pub fn list<'a>(
+    cells: &'a Cells,
+    pool: &'a Pool,
+    heads: Heads,
+    out: &mut [u8],
+) -> Result<usize, ListRefusal>
     ensures { (result ≡ list_answer (table cells.now pool.now heads) out.old)
         × (out.new ≡ list_into (table cells.now pool.now heads) out.old) }
 {
-    if is_accepted(cells, pool, heads) {
-        // A refusal alters no byte, so the room is tested before the first is written.
-        if listing_fits(cells, pool, heads, out.len()) {
-            let count = whole(cells, pool, heads, out);
-            return Listed::Wrote(count);
-        }
-        return Listed::Refused(ListRefusal::NoRoom);
+    if !is_accepted(cells, pool, heads) {
+        return Err(ListRefusal::BadTable);
     }
-    Listed::Refused(ListRefusal::BadTable)
+    // A refusal alters no byte, so the room is tested before the first is written.
+    if !listing_fits(cells, pool, heads, out.len()) {
+        return Err(ListRefusal::NoRoom);
+    }
+    Ok(whole(cells, pool, heads, out))
 }

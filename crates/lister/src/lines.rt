@@ -12,12 +12,14 @@ use crate::hex_or_text::in_hex;
 use crate::text::{hex, number, put, short_hex, store, unit};
 use language::last_digit::last_in_one;
 use language::{Clock, DATA, Pool, Span, WAIT_ROOM};
-use reader::widths::wide;
 
-pub(crate) fn number_of(x: u16) -> u32
-    ensures { result ≡ x }
+// The bytes of a cell's data.
+fn data_of(pool: &Pool, s: Span) -> &[u8]
+    requires { s.from + s.count ≤ pool_places }
+    ensures { result.now ≡ data_at pool.now s }
 {
-    x as u32
+    let from = usize::from(s.from);
+    &pool[from..from + usize::from(s.count)]
 }
 
 // Data in hex after `:`, or as text after `/`.
@@ -44,10 +46,7 @@ pub(crate) fn pool_text(out: &mut [u8], at: usize, pool: &Pool, s: Span, room: u
         × FitsListing at (data_text room (data_at pool.now s)) }
     ensures { Printed (data_text room (data_at pool.now s)) out.old at result out.new }
 {
-    let bytes: &[u8] = pool;
-    let from = wide(s.from);
-    let end = from + wide(s.count);
-    data_text(out, at, &bytes[from..end], room)
+    data_text(out, at, data_of(pool, s), room)
 }
 
 // "`#WAIT DATA`" and its data.
@@ -78,10 +77,7 @@ pub(crate) fn log(out: &mut [u8], at: usize, pool: &Pool, s: Span) -> usize
     requires { (s.from + s.count ≤ pool_places) × FitsListing at (log_text (data_at pool.now s)) }
     ensures { Printed (log_text (data_at pool.now s)) out.old at result out.new }
 {
-    let bytes: &[u8] = pool;
-    let from = wide(s.from);
-    let end = from + wide(s.count);
-    log_text(out, at, &bytes[from..end])
+    log_text(out, at, data_of(pool, s))
 }
 
 // "`#LOOP EVER` or the count".
@@ -92,7 +88,7 @@ pub(crate) fn count_text(out: &mut [u8], at: usize, n: u16) -> usize
     if n == 0 {
         return put(out, at, b"EVER");
     }
-    number(out, at, number_of(n))
+    number(out, at, u32::from(n))
 }
 
 // "Times up to 60000 ms in MS, longer in S".
@@ -135,17 +131,12 @@ pub(crate) fn signal_text(out: &mut [u8], at: usize, n: u8) -> usize
 fn letter(c: Clock) -> u8
     ensures { result ≡ clock_letter (fixed_units c) }
 {
-    let fixed = c.fixed;
-    if fixed < 2 {
-        return b's';
+    match c.fixed {
+        0 | 1 => b's',
+        2 => b'm',
+        3 => b'h',
+        _ => b'D',
     }
-    if fixed == 2 {
-        return b'm';
-    }
-    if fixed == 3 {
-        return b'h';
-    }
-    b'D'
 }
 
 // "the first fixed unit and every shorter one in full, or `s`".

@@ -1,4 +1,6 @@
 // The text of a listing: the lines of the settings, then those of the processes, "CR LF after each line".
+// The slice and the place are two parameters of every printing function: in a struct over the lent slice each contract would also have to
+// say that it is still the same slice, which is no plainer.
 ghost use Rattle.std.specs.Prelude.{◌≡◌, ◌≤◌, leb, length};
 ghost use Rattle.lister.specs.Inside.Printed.{FitsListing, Printed};
 ghost use Rattle.lister.specs.Listed.{listing_of};

@@ -9,10 +9,9 @@ ghost use Rattle.language.specs.Table.{letters_of};
 ghost use Rattle.lister.specs.Inside.Printed.{FitsListing, Printed, printed_settings};
 ghost use Rattle.language.specs.Limits.{omit_places};
 
-use crate::text::{hex, put, put_first};
+use crate::text::{hex, put};
 use accepted::settings::{letters, other_letters};
 use language::Heads;
-use reader::widths::wide_byte;
 
 // "`#f:ENCODE :hh`".
 fn encode_line(out: &mut [u8], at: usize, encodes: bool, encode: u8) -> usize
@@ -21,9 +20,8 @@ fn encode_line(out: &mut [u8], at: usize, encodes: bool, encode: u8) -> usize
         out.new }
 {
     if encodes {
-        let one = [encode];
         let name = put(out, at, b"#f:ENCODE :");
-        let next = hex(out, name, &one);
+        let next = hex(out, name, &[encode]);
         return put(out, next, b"\r\n");
     }
     at
@@ -68,7 +66,7 @@ fn lfext_line(out: &mut [u8], at: usize, extension: &[u8]) -> usize
 {
     if other_letters(extension) {
         let name = put(out, at, b"#f:LFEXT ");
-        let next = put_first(out, name, extension, letters(extension));
+        let next = put(out, name, &extension[..letters(extension)]);
         return put(out, next, b"\r\n");
     }
     at
@@ -79,11 +77,9 @@ pub(crate) fn settings(out: &mut [u8], at: usize, heads: Heads) -> usize
     requires { (heads.omits ≤ omit_places) × FitsListing at (printed_settings heads) }
     ensures { Printed (printed_settings heads) out.old at result out.new }
 {
-    let omit = heads.omit;
-    let extension = heads.extension;
-    let omits = wide_byte(heads.omits);
+    let omits = usize::from(heads.omits);
     let first = encode_line(out, at, heads.encodes, heads.encode);
     let second = stopbits_line(out, first, heads.two_stop_bits);
-    let third = omit_line(out, second, &omit[..omits]);
-    lfext_line(out, third, &extension)
+    let third = omit_line(out, second, &heads.omit[..omits]);
+    lfext_line(out, third, &heads.extension)
 }

@@ -9,12 +9,13 @@ ghost use Rattle.lister.specs.Inside.Names.{bare_name};
 ghost use Rattle.lister.specs.Inside.Printed.{FitsListing, Printed, line_ended, word_line};
 
 use crate::lines::{
-    clock_text, count_text, log, number_of, on_text, pool_text, signal_text, time_text, wait_data,
+    clock_text, count_text, log, on_text, pool_text, signal_text, time_text, wait_data,
 };
 use crate::text::{number, put};
 use cells::decoder::decode;
 use language::{Cell, Clock, Level, Pool, SEND_ROOM};
 
+// A name, then a value: each of these six has its own writer of the value, so one function over a closure would be no plainer.
 // `#LOOP` and how often.
 fn loops(out: &mut [u8], at: usize, n: u16) -> usize
     requires { FitsListing at (ascii "#LOOP " ++ count_text n) }
@@ -39,7 +40,7 @@ fn wait_byte(out: &mut [u8], at: usize, n: u16) -> usize
     ensures { Printed (ascii "#WAIT BYTE " ++ decimal n) out.old at result out.new }
 {
     let next = put(out, at, b"#WAIT BYTE ");
-    number(out, next, number_of(n))
+    number(out, next, u32::from(n))
 }
 
 // `#WAIT CLOCK` and the clock value.

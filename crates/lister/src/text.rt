@@ -6,7 +6,7 @@ ghost use Rattle.language.specs.Listing.{last_of, short_hex};
 ghost use Rattle.lister.specs.Inside.Printed.{FitsListing, Printed};
 
 use language::SEND_ROOM;
-use writer::{Put, capital_digit, put_decimal, put_hex, put_two_digits};
+use writer::{capital_digit, put_decimal, put_hex, put_two_digits};
 
 // Writes a byte, if the slice has the place.
 pub(crate) fn store(out: &mut [u8], at: usize, b: u8)
@@ -23,35 +23,22 @@ pub(crate) fn put(out: &mut [u8], at: usize, bytes: &[u8]) -> usize
     ensures { Printed bytes.now out.old at result out.new }
 {
     let mut place = at;
-    let mut i = 0usize;
-    while i < bytes.len() {
-        store(out, place, bytes[i]);
+    for b in bytes {
+        store(out, place, *b);
         place += 1;
-        i += 1;
     }
     place
 }
 
-// Writes the first bytes.
-pub(crate) fn put_first(out: &mut [u8], at: usize, bytes: &[u8], count: usize) -> usize
-    requires { (count ≤ length bytes.now) × FitsListing at (take count bytes.now) }
-    ensures { Printed (take count bytes.now) out.old at result out.new }
-{
-    put(out, at, &bytes[..count])
-}
-
-// Writes a number in decimal.
+// Writes a number in decimal. One function over a closure, for `hex` and `two_digits` too, would take the text as a ghost argument: no plainer.
 pub(crate) fn number(out: &mut [u8], at: usize, n: u32) -> usize
     requires { FitsListing at (decimal n) }
     ensures { Printed (decimal n) out.old at result out.new }
 {
     let mut digits = [0u8; 10];
-    let done = put_decimal(&mut digits, 0, n);
-    match done {
-        Put::Next(count) => put_first(out, at, &digits, count),
-        // Ten digits are enough for every number.
-        Put::NoRoom => at,
-    }
+    // Ten digits are enough for every number.
+    let count = put_decimal(&mut digits, 0, n).unwrap();
+    put(out, at, &digits[..count])
 }
 
 // Writes bytes in hex, at most as many as a line has room for.
@@ -60,12 +47,9 @@ pub(crate) fn hex(out: &mut [u8], at: usize, bytes: &[u8]) -> usize
     ensures { Printed (hex_text bytes.now) out.old at result out.new }
 {
     let mut digits = [0u8; SEND_ROOM];
-    let done = put_hex(&mut digits, 0, bytes);
-    match done {
-        Put::Next(count) => put_first(out, at, &digits, count),
-        // There are two digits for each byte.
-        Put::NoRoom => at,
-    }
+    // There are two digits for each byte.
+    let count = put_hex(&mut digits, 0, bytes).unwrap();
+    put(out, at, &digits[..count])
 }
 
 // Writes bytes in hex, the last of them in one digit.
@@ -88,12 +72,9 @@ fn two_digits(out: &mut [u8], at: usize, n: u8) -> usize
     ensures { Printed (two_digits n) out.old at result out.new }
 {
     let mut digits = [0u8; 2];
-    let done = put_two_digits(&mut digits, 0, n);
-    match done {
-        Put::Next(count) => put_first(out, at, &digits, count),
-        // Two digits have room in two bytes.
-        Put::NoRoom => at,
-    }
+    // Two digits have room in two bytes.
+    let count = put_two_digits(&mut digits, 0, n).unwrap();
+    put(out, at, &digits[..count])
 }
 
 // Writes a unit of a clock value, if it is fixed.

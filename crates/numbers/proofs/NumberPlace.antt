@@ -1,4 +1,5 @@
 -- THE FIRST BYTE THAT A NUMBER CANNOT TAKE. With it no ending makes a number; what stands before it can be ended. Assumes nothing.
+use Rattle.std.specs.Prelude.{Ok, Err}
 use Prim.Native.Nat.{ℕ, suc, ◌+◌, ◌*◌, ◌<◌}
 use mathlib.Core.Path.{◌≡◌, refl, sym, ap, ◌∙◌}
 use mathlib.Core.Bool.{Bool, true, false, cond}
@@ -10,10 +11,8 @@ use borrow.Author.Tests.{lt-ltb, le-leb, eqb-true, eqb-false, eq-eqb, ne_eqb}
 use Rattle.reader.specs.Bytes.{digit_of, is_byte, in_line}
 use Rattle.reader.specs.FirstBad.{CanEnd, FirstBad}
 use Rattle.reader.proofs.FirstBad.{bad_end, bad_here, bad_next, bad_as}
-use Rattle.numbers.specs.Number.{digits_ended, number_go, number_at, number_place, is_whole}
+use Rattle.numbers.specs.Number.{NumberRead, value_at, digits_ended, number_go, number_at, number_place, is_whole}
 use Rattle.numbers.specs.Inside.Moved.{moved_on}
-use Rattle.numbers.specs.declared.Number.{Number}
-use Rattle.numbers.specs.declared.Number.TheVariants.{Value, Bad}
 use Rattle.numbers.proofs.Moved.{number_moved}
 
 -- one byte before it
@@ -24,15 +23,15 @@ next_same m n = go (eqb m n) refl
     go true e = eq-eqb (1 + m) (suc n) (omega (arith, eqb-true m n e))
     go false e = ne_eqb (1 + m) (suc n) (λ p. eqb-false m n e (omega arith))
 
-whole_next : (b : ℕ) (a : List ℕ) (x : Number) → is_whole (b ∷ a) (moved_on 1 x) ≡ is_whole a x
+whole_next : (b : ℕ) (a : List ℕ) (x : NumberRead) → is_whole (b ∷ a) (moved_on 1 x) ≡ is_whole a x
 unfolding moved_on
-whole_next b a (Value v next) = next_same next (length a)
-whole_next b a (Bad at) = refl
+whole_next b a (Ok n) = next_same n.next (length a)
+whole_next b a (Err at) = refl
 
-pub place_next : (x : Number) → number_place (moved_on 1 x) ≡ suc (number_place x)
+pub place_next : (x : NumberRead) → number_place (moved_on 1 x) ≡ suc (number_place x)
 unfolding moved_on number_place
-place_next (Value v next) = omega arith
-place_next (Bad at) = omega arith
+place_next (Ok n) = omega arith
+place_next (Err at) = omega arith
 
 module _ (most limit : ℕ) where
   -- the bytes after `n` digits with the value `v`
@@ -44,7 +43,7 @@ module _ (most limit : ℕ) where
     unfolding digits_ended
     ended_here b e = go (ltb 0 n)
       where
-        go : (t : Bool) → is_whole (b ∷ e) (cond t (Value v 0) (Bad 0)) ≡ false
+        go : (t : Bool) → is_whole (b ∷ e) (cond t (value_at v 0) (Err 0)) ≡ false
         go true = ne_eqb 0 (suc (length e)) (λ p. omega arith)
         go false = refl
 
@@ -52,7 +51,7 @@ module _ (most limit : ℕ) where
     unfolding digits_ended number_place
     ended_place = go (ltb 0 n)
       where
-        go : (t : Bool) → number_place (cond t (Value v 0) (Bad 0)) ≡ 0
+        go : (t : Bool) → number_place (cond t (value_at v 0) (Err 0)) ≡ 0
         go true = refl
         go false = refl
 
@@ -64,7 +63,7 @@ module _ (most limit : ℕ) where
   -- taken, or it is the next digit
   pub data Way (b n v : ℕ) : Type 0 where
     ends : ((a : List ℕ) → number_go most limit (b ∷ a) n v 0 ≡ digits_ended n v 0) → Way b n v
-    refuses : ltb (digit_of b) 10 ≡ true → ((a : List ℕ) → number_go most limit (b ∷ a) n v 0 ≡ Bad 0) → Way b n v
+    refuses : ltb (digit_of b) 10 ≡ true → ((a : List ℕ) → number_go most limit (b ∷ a) n v 0 ≡ Err 0) → Way b n v
     goes : ((a : List ℕ) → number_go most limit (b ∷ a) n v 0 ≡ moved_on 1 (number_go most limit a (n + 1) (v * 10 + digit_of b) 0)) → Way b n v
 
   pub way : (b n v : ℕ) → Way b n v
@@ -91,14 +90,14 @@ module _ (most limit : ℕ) where
 
   module _ (b : ℕ) (rest : List ℕ) (n v : ℕ) (c : CanEnd (right n v) []) where
     -- the byte cannot be taken
-    here : (x : Number) → number_place x ≡ 0 → ((e : List ℕ) → is_whole (b ∷ e) x ≡ false) → ((a : List ℕ) → number_go most limit (b ∷ a) n v 0 ≡ x) → Found n v (b ∷ rest)
+    here : (x : NumberRead) → number_place x ≡ 0 → ((e : List ℕ) → is_whole (b ∷ e) x ≡ false) → ((a : List ℕ) → number_go most limit (b ∷ a) n v 0 ≡ x) → Found n v (b ∷ rest)
     unfolding right
     here x z dead is = rw (is rest, z) (bad_here b rest c (λ e. ap (is_whole (b ∷ e)) (is e) ∙ dead e))
 
     by_byte : Found (n + 1) (v * 10 + digit_of b) rest → Way b n v → Found n v (b ∷ rest)
     unfolding right number_place
     by_byte f (ends is) = here (digits_ended n v 0) (ended_place n v) (ended_here n v b) is
-    by_byte f (refuses d is) = here (Bad 0) refl (λ a. refl) is
+    by_byte f (refuses d is) = here (Err 0) refl (λ a. refl) is
     by_byte f (goes is) =
         rw (is rest, place_next (number_go most limit rest (n + 1) (v * 10 + digit_of b) 0))
         (bad_next b rest (bad_as (λ a. sym (ap (is_whole (b ∷ a)) (is a) ∙ whole_next b a (number_go most limit a (n + 1) (v * 10 + digit_of b) 0))) f))

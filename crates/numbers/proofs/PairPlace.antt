@@ -1,5 +1,6 @@
 -- THE FIRST BYTE THAT TWO DIGITS CANNOT TAKE. With it no ending makes a value between the bounds; what stands before it can be ended.
 -- Assumes nothing.
+use Rattle.std.specs.Prelude.{Ok, Err}
 use Prim.Native.Nat.{ℕ, suc, ◌+◌, ◌-◌, ◌*◌, ◌/◌, ◌≤◌, ◌<◌}
 use mathlib.Core.Path.{◌≡◌, refl, sym, ◌∙◌}
 use mathlib.Core.Bool.{Bool, true, false, ◌&&◌}
@@ -13,9 +14,7 @@ use Rattle.reader.specs.FirstBad.{CanEnd, FirstBad}
 use Rattle.reader.proofs.Tests.{both, both_left, both_right, by_cases}
 use Rattle.reader.proofs.Digits.{digit_is}
 use Rattle.reader.proofs.FirstBad.{bad_end, bad_here, bad_next, bad_as}
-use Rattle.numbers.specs.Number.{number_place, is_whole, second_of, pair_of, pair_at}
-use Rattle.numbers.specs.declared.Number.{Number}
-use Rattle.numbers.specs.declared.Number.TheVariants.{Value, Bad}
+use Rattle.numbers.specs.Number.{NumberRead, value_at, number_place, is_whole, second_of, pair_of, pair_at}
 
 -- a place that is told, counted on from `at`, is that of the first bad byte
 pub record Placed (right : List ℕ → Bool) (l : List ℕ) (at told : ℕ) : Type 0 where
@@ -24,14 +23,14 @@ pub record Placed (right : List ℕ → Bool) (l : List ℕ) (at told : ℕ) : T
   pub law : FirstBad right l place
 
 -- a value that is read, and then what the rest comes to
-abbrev pub then_right : Number → Bool → Bool
-then_right (Value v next) rest = rest
-then_right (Bad at) rest = false
+abbrev pub then_right : NumberRead → Bool → Bool
+then_right (Ok n) rest = rest
+then_right (Err at) rest = false
 
 -- the place of a fault in the value, or else the one that the rest tells
-abbrev pub then_place : Number → ℕ → ℕ
-then_place (Value v next) rest = rest
-then_place (Bad at) rest = at
+abbrev pub then_place : NumberRead → ℕ → ℕ
+then_place (Ok n) rest = rest
+then_place (Err at) rest = at
 
 digit_held : (d : ℕ) → d < 10 → in_line (48 + d) ≡ true
 unfolding in_line is_byte
@@ -77,7 +76,7 @@ module _ (low high : ℕ) where
 
   -- what the digits do, whatever comes after them
   module _ (at a : ℕ) where
-    not_opened : opens a ≡ false → (e : List ℕ) → pair_of low high (a ∷ e) at ≡ Bad at
+    not_opened : opens a ≡ false → (e : List ℕ) → pair_of low high (a ∷ e) at ≡ Err at
     unfolding pair_of
     not_opened o e = rw o
 
@@ -86,11 +85,11 @@ module _ (low high : ℕ) where
       unfolding pair_of
       opened e = rw o
 
-      not_closed : (b : ℕ) → closes a b ≡ false → (e : List ℕ) → pair_of low high (a ∷ b ∷ e) at ≡ Bad (at + 1)
+      not_closed : (b : ℕ) → closes a b ≡ false → (e : List ℕ) → pair_of low high (a ∷ b ∷ e) at ≡ Err (at + 1)
       unfolding second_of
       not_closed b k e = opened (b ∷ e) ∙ rw k
 
-      closed : (b : ℕ) → closes a b ≡ true → (e : List ℕ) → pair_of low high (a ∷ b ∷ e) at ≡ Value (digit_of a * 10 + digit_of b) (at + 1 + 1)
+      closed : (b : ℕ) → closes a b ≡ true → (e : List ℕ) → pair_of low high (a ∷ b ∷ e) at ≡ value_at (digit_of a * 10 + digit_of b) (at + 1 + 1)
       unfolding second_of
       closed b k e = opened (b ∷ e) ∙ rw k
 
@@ -173,23 +172,23 @@ module _ (low high : ℕ) where
   place_told : (l : List ℕ) → number_place (pair_of low high l 0) ≡ then_place (pair_of low high l 0) 2
   unfolding pair_of second_of number_place
   place_told [] = refl
-  place_told (a ∷ []) = by_cases (λ n. number_place n ≡ then_place n 2) (opens low high a) (Bad 1) (Bad 0) (λ e. refl) (λ e. refl)
+  place_told (a ∷ []) = by_cases (λ n. number_place n ≡ then_place n 2) (opens low high a) (Err 1) (Err 0) (λ e. refl) (λ e. refl)
   place_told (a ∷ b ∷ l) =
-      by_cases (λ n. number_place n ≡ then_place n 2) (opens low high a) _ (Bad 0)
-      (λ e. by_cases (λ n. number_place n ≡ then_place n 2) (closes low high a b) (Value _ 2) (Bad 1) (λ e₁. refl) (λ e₁. refl))
+      by_cases (λ n. number_place n ≡ then_place n 2) (opens low high a) _ (Err 0)
+      (λ e. by_cases (λ n. number_place n ≡ then_place n 2) (closes low high a b) (value_at _ 2) (Err 1) (λ e₁. refl) (λ e₁. refl))
       (λ e. refl)
 
   -- a pair that is all that there is
   pair_read : (l : List ℕ) → pair_then low high none 0 l ≡ is_whole l (pair_of low high l 0)
   unfolding pair_of second_of same
   pair_read [] = refl
-  pair_read (a ∷ []) = by_cases (λ n. then_right n true ≡ is_whole (a ∷ []) n) (opens low high a) (Bad 1) (Bad 0) (λ e. refl) (λ e. refl)
+  pair_read (a ∷ []) = by_cases (λ n. then_right n true ≡ is_whole (a ∷ []) n) (opens low high a) (Err 1) (Err 0) (λ e. refl) (λ e. refl)
   pair_read (a ∷ b ∷ []) =
-      by_cases (λ n. then_right n true ≡ is_whole (a ∷ b ∷ []) n) (opens low high a) _ (Bad 0)
-      (λ e. by_cases (λ n. then_right n true ≡ is_whole (a ∷ b ∷ []) n) (closes low high a b) (Value _ 2) (Bad 1) (λ e₁. refl) (λ e₁. refl)) (λ e. refl)
+      by_cases (λ n. then_right n true ≡ is_whole (a ∷ b ∷ []) n) (opens low high a) _ (Err 0)
+      (λ e. by_cases (λ n. then_right n true ≡ is_whole (a ∷ b ∷ []) n) (closes low high a b) (value_at _ 2) (Err 1) (λ e₁. refl) (λ e₁. refl)) (λ e. refl)
   pair_read (a ∷ b ∷ c ∷ l) =
-      by_cases (λ n. then_right n false ≡ is_whole (a ∷ b ∷ c ∷ l) n) (opens low high a) _ (Bad 0)
-      (λ e. by_cases (λ n. then_right n false ≡ is_whole (a ∷ b ∷ c ∷ l) n) (closes low high a b) (Value _ 2) (Bad 1) (λ e₁. sym (ne_eqb 2 (suc (suc (suc (length l)))) (λ p. omega arith))) (λ e₁. refl))
+      by_cases (λ n. then_right n false ≡ is_whole (a ∷ b ∷ c ∷ l) n) (opens low high a) _ (Err 0)
+      (λ e. by_cases (λ n. then_right n false ≡ is_whole (a ∷ b ∷ c ∷ l) n) (closes low high a b) (value_at _ 2) (Err 1) (λ e₁. sym (ne_eqb 2 (suc (suc (suc (length l)))) (λ p. omega arith))) (λ e₁. refl))
       (λ e. refl)
 
   pub pair_first_bad : low ≤ high → high < 100 → (l : List ℕ) → FirstBad (λ a. is_whole a (pair_at low high a 0)) l (number_place (pair_at low high l 0))

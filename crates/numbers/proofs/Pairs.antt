@@ -1,36 +1,48 @@
--- One or two digits from a place on: the definitions there, with the digit that the code has read. Assumes nothing.
+-- Two digits from a place on: the definition there, with the digits that the code has read. Assumes nothing.
 use Prim.Native.Nat.{ℕ, ◌+◌, ◌*◌, ◌≤◌, ◌<◌}
-use mathlib.Core.Path.{◌≡◌, ◌∙◌}
+use Rattle.std.specs.Prelude.{Err, None}
+use mathlib.Core.Path.{◌≡◌, sym, ◌∙◌}
 use mathlib.Core.Bool.{cond, ◌&&◌}
 use mathlib.Core.List.{List}
 use native.Mathlib.Numerals.{add-one}
-use lib.Dec.{ltb, leb}
-use lib.ListN.{length, drop, get_or, drop_of_length-le}
+use lib.Dec.{leb}
+use lib.ListN.{drop}
 use lib.Seq.{drop-cons}
-use borrow.Author.Tests.{lt-ltb, le-leb}
-use Rattle.reader.specs.Bytes.{digit_of}
-use Rattle.numbers.specs.Number.{second_of, pair_of, pair_at}
-use Rattle.numbers.specs.declared.Number.TheVariants.{Value, Bad}
+use borrow.Author.Tests.{lt-ltb, le-leb, lt-leb}
+use Rattle.numbers.specs.Number.{value_at, second_of, pair_of, pair_at}
+use Rattle.numbers.specs.Inside.Decimal.{decimal_at}
+use Rattle.numbers.proofs.Digit.{Shown, second_ends}
 
-module _ (s : List ℕ) (at : ℕ) (outside : length s ≤ at) where
-  pub second_none : (low high d : ℕ) → Bad at ≡ second_of low high d (drop at s) at
-  unfolding second_of
-  second_none low high d = rw (drop_of_length-le s outside)
-
-  pub pair_none : (low high : ℕ) → Bad at ≡ pair_at low high s at
+module _ (low high : ℕ) {s : List ℕ} {at d : ℕ} (tens : Shown s at d) where
+  on_tens : pair_at low high s at ≡ cond (leb low (d * 10 + 9) && leb (d * 10) high) (second_of low high d (drop (at + 1) s) (at + 1)) (Err at)
   unfolding pair_at pair_of
-  pair_none low high = rw (drop_of_length-le s outside)
+  on_tens = rw (add-one at, drop-cons s at 0 tens.inside) (simp (← tens.is, lt-ltb _ _ tens.small, add-one))
 
-module _ (s : List ℕ) (at : ℕ) {e : ℕ} (inside : at < length s) (is : e ≡ digit_of (get_or s at 0)) where
-  pub second_on_lem : (low high d : ℕ) → second_of low high d (drop at s) at
-      ≡ cond (ltb e 10 && (leb low (d * 10 + e) && leb (d * 10 + e) high)) (Value (d * 10 + e) (at + 1)) (Bad at)
-  unfolding second_of
-  second_on_lem low high d = rw (drop-cons s at 0, is)
+  pub tens_low : d * 10 + 9 < low → Err at ≡ pair_at low high s at
+  tens_low h = sym (on_tens ∙ simp (lt-leb _ _ h))
 
-  pub pair_on : (low high : ℕ) → pair_at low high s at
-      ≡ cond (ltb e 10 && (leb low (e * 10 + 9) && leb (e * 10) high)) (second_of low high e (drop (at + 1) s) (at + 1)) (Bad at)
-  unfolding pair_at pair_of
-  pair_on low high = rw (add-one at, drop-cons s at 0, is) (simp add-one)
+  module _ (l : low ≤ d * 10 + 9) where
+    pub tens_high : high < d * 10 → Err at ≡ pair_at low high s at
+    tens_high h = sym (on_tens ∙ simp (le-leb _ _ l, lt-leb _ _ h))
 
-  pub pair_first : {low high : ℕ} → e < 10 → low ≤ e * 10 + 9 → e * 10 ≤ high → pair_at low high s at ≡ second_of low high e (drop (at + 1) s) (at + 1)
-  pair_first {low} {high} h l u = pair_on low high ∙ simp (lt-ltb _ _ h, le-leb _ _ l, le-leb _ _ u)
+    module _ (h : d * 10 ≤ high) where
+      to_units : pair_at low high s at ≡ second_of low high d (drop (at + 1) s) (at + 1)
+      to_units = on_tens ∙ simp (le-leb _ _ l, le-leb _ _ h)
+
+      pub units_none : None ≡ decimal_at s (at + 1) → Err (at + 1) ≡ pair_at low high s at
+      units_none e = sym (to_units ∙ second_ends low high d s (at + 1) e)
+
+      module _ {e : ℕ} (units : Shown s (at + 1) e) where
+        on_units : pair_at low high s at ≡ cond (leb low (d * 10 + e) && leb (d * 10 + e) high) (value_at (d * 10 + e) (at + 1 + 1)) (Err (at + 1))
+        unfolding second_of
+        on_units = to_units ∙ rw (drop-cons s (at + 1) 0 units.inside) (simp (← units.is, lt-ltb _ _ units.small))
+
+        pub units_low : d * 10 + e < low → Err (at + 1) ≡ pair_at low high s at
+        units_low k = sym (on_units ∙ simp (lt-leb _ _ k))
+
+        module _ (k : low ≤ d * 10 + e) where
+          pub units_high : high < d * 10 + e → Err (at + 1) ≡ pair_at low high s at
+          units_high m = sym (on_units ∙ simp (le-leb _ _ k, lt-leb _ _ m))
+
+          pub pair_read : d * 10 + e ≤ high → value_at (d * 10 + e) (at + 1 + 1) ≡ pair_at low high s at
+          pair_read m = sym (on_units ∙ simp (le-leb _ _ k, le-leb _ _ m))

@@ -3,9 +3,9 @@
 
 pub mod decimal;
 
-// A number with the place after it, or the place of the first byte that cannot be taken.
-#[derive(Clone, Copy)]
-pub enum Number {
-    Value(u32, usize),
-    Bad(usize),
+// A number that was read, with the place after it.
+#[derive(Clone, Copy, Debug, PartialEq, Eq)]
+pub struct Number {
+    pub value: u32,
+    pub next: usize,
 }

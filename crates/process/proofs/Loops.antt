@@ -1,26 +1,26 @@
 -- Laws for loops over an array: one that looks for an element, and one that maps each. Assumes nothing.
-use mathlib.Core.Path.{◌≡◌, refl, sym, ap, ◌∙◌}
-use mathlib.Core.Bool.{Bool, true, false}
+use mathlib.Core.Path.{◌≡◌, refl, sym, ap, ap₂, ◌∙◌}
+use mathlib.Core.Bool.{Bool, true}
 use mathlib.Core.List.{List, [], ◌∷◌, ◌++◌, map, append_assoc}
 use Prim.Native.Nat.{ℕ, suc, ◌+◌, ◌≤◌, ◌<◌}
 use native.Mathlib.Numerals.{add-one}
 use native.Mathlib.Omega.{arith}
 use Rattle.reader.specs.Bytes.{all}
 use Rattle.reader.proofs.Each.{each_at}
+use Rattle.std.specs.List.{list_any, list_all}
+use Rattle.process.specs.declared.Process.{Process}
 use Rattle.process.specs.State.{any}
 use lib.ListN.{length, get_or, take, drop, set, length-map, drop_of_length-le}
 use lib.Seq.{take-suc, drop-cons, take_all, set_at, get_or_at, length-take-le}
 
--- A loop that looks for an element that passes: what is left is `drop i l`.
-module _ {A : Type 0} (f : A → Bool) (l : List A) (i : ℕ) (d : A) where
-  pub any_here : i < length l → f (get_or l i d) ≡ true → any f (drop i l) ≡ true
-  any_here h e = rw (drop-cons l i d, e)
+-- std's tests and those of specs/
+pub any_is : {A : Type 0} (f : A → Bool) (l : List A) → list_any f l ≡ any f l
+any_is f [] = refl
+any_is f (x ∷ l) = rw (any_is f l)
 
-  pub any_past : i < length l → f (get_or l i d) ≡ false → any f (drop i l) ≡ any f (drop (i + 1) l)
-  any_past h e = rw (add-one, drop-cons l i d, e)
-
-pub any_end : {A : Type 0} (f : A → Bool) (l : List A) (i : ℕ) → length l ≤ i → any f (drop i l) ≡ false
-any_end f l i h = rw (drop_of_length-le l h)
+pub all_is : {A : Type 0} (f : A → Bool) (l : List A) → list_all f l ≡ all f l
+all_is f [] = refl
+all_is f (x ∷ l) = rw (all_is f l)
 
 -- A loop that maps each element in place: i of them are done.
 abbrev pub done : {A : Type 0} → (A → A) → ℕ → List A → List A

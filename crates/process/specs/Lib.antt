@@ -2,3 +2,4 @@
 pub mod Matching
 pub mod Waiting
 pub mod State
+pub mod Answers

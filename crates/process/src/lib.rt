@@ -64,7 +64,7 @@ pub struct State {
 }
 
 // Why a call is refused.
-#[derive(Clone, Copy)]
+#[derive(Clone, Copy, PartialEq, Eq, Debug)]
 pub enum RunRefusal {
     Busy,
     BadReading,
@@ -75,6 +75,7 @@ pub enum RunRefusal {
 
 impl RunRefusal {
     // "Numbers the bench reads back".
+    #[tactic(auto, unfolding(crate::specs::State::run_refusal_number))]
     pub fn number(self) -> u8
         ensures { result ≡ run_refusal_number self }
     {
@@ -88,17 +89,8 @@ impl RunRefusal {
     }
 }
 
-#[derive(Clone, Copy)]
-pub enum Taken {
-    Took,
-    Refused(RunRefusal),
-}
-
-#[derive(Clone, Copy)]
-pub struct Event {
-    pub state: State,
-    pub answer: Taken,
-}
+// What an event answers: it is taken, or refused.
+pub type Taken = Result<(), RunRefusal>;
 
 // How often a received byte is recorded: not at all, once or twice.
 #[derive(Clone, Copy)]
@@ -106,17 +98,7 @@ pub struct Copies {
     pub count: u8,
 }
 
-#[derive(Clone, Copy)]
-pub enum Received {
-    Took(Copies),
-    Refused(RunRefusal),
-}
-
-#[derive(Clone, Copy)]
-pub struct ByteEvent {
-    pub state: State,
-    pub answer: Received,
-}
+pub type Received = Result<Copies, RunRefusal>;
 
 // What a gulp took: so many bytes or ticks, and so many bytes recorded of them.
 #[derive(Clone, Copy)]
@@ -125,14 +107,11 @@ pub struct Gulp {
     pub recorded: usize,
 }
 
-#[derive(Clone, Copy)]
-pub enum Gulped {
-    Took(Gulp),
-    Refused(RunRefusal),
-}
+pub type Gulped = Result<Gulp, RunRefusal>;
 
+// The state after an event, with its answer.
 #[derive(Clone, Copy)]
-pub struct GulpEvent {
+pub struct Event<A> {
     pub state: State,
-    pub answer: Gulped,
+    pub answer: Result<A, RunRefusal>,
 }

@@ -4,10 +4,10 @@ use mathlib.Core.Path.{◌≡◌, refl, sym, ap, ◌∙◌}
 use mathlib.Core.Bool.{true}
 use mathlib.Core.List.{List, [], ◌∷◌}
 use Prim.Native.Nat.{ℕ}
+use Rattle.std.specs.Prelude.{Ok}
 use Rattle.reader.specs.Bytes.{all}
 use Rattle.reader.specs.Ascii.{ascii}
 use Rattle.figures.specs.Written as writing
-use Rattle.language.specs.declared.Answer.TheVariants.{Accepted}
 use Rattle.language.specs.Right.{is_byte}
 use Rattle.language.specs.Right as right
 use Rattle.language.specs.Cell as cell
@@ -16,7 +16,6 @@ use Rattle.language.specs.Draft.{Result}
 use Rattle.language.specs.Answer.{answered, script_from, compiled}
 use Rattle.running.specs.Joined as joined
 use Rattle.language.proofs.Opened.{printed}
-use Rattle.process.specs.declared.Taken.TheVariants as taken
 use Rattle.events.specs.Recording as recording
 use Rattle.record.specs.Logging as logging
 use Rattle.runner.specs.Calls.{Call, Reply, event}
@@ -29,8 +28,8 @@ use Rattle.promises.specs.Cases.{Case, answers, writes_out, holds, alike, runs, 
 record Ran (text : List ℕ) (qs : List Call) (rs : List Reply) : Type 0 where
   stretch : ℕ
   bytes : all is_byte text ≡ true
-  result : compiled text ≡ record { answer = Accepted stretch; table = (compiled text).table }
-  replied : (y : script.Box) → replies_of (script_from text) y qs ≡ event taken.Took ∷ rs
+  result : compiled text ≡ record { answer = Ok stretch; table = (compiled text).table }
+  replied : (y : script.Box) → replies_of (script_from text) y qs ≡ event (Ok tt) ∷ rs
 
 -- so the runner replies likewise: what runs is the script
 runs_so : (text : List ℕ) (qs : List Call) (rs : List Reply) → Ran text qs rs → Runs text qs rs

@@ -8,6 +8,7 @@ use lib.Dec.{ltb, leb}
 use lib.ListN.{length, length-append}
 use lib.Seq.{append_snoc}
 use borrow.Author.Tests.{ltb-false}
+use Rattle.std.specs.Prelude.{Err}
 use Rattle.reader.specs.Bytes.{all, is_byte, in_line}
 use Rattle.reader.specs.FirstBad.{FirstBad}
 use Rattle.reader.proofs.FirstBad.{told_stays}
@@ -17,7 +18,6 @@ use Rattle.hex_data.proofs.HexPlace.{hex_first_bad, byte_first_bad}
 use Rattle.figures.specs.Cap.{limit}
 use Rattle.language.specs.declared.TextFault.{TextFault}
 use Rattle.language.specs.declared.TextFault.TheVariants.{TextTooLong, LineTooLong, TooManyLines, NoSuchName, BadRest, TooMuchData, TooManyOmits, TooManyLoops, EndWithoutLoop, LoopLeftOpen, TooManyProcesses, StretchTooLong}
-use Rattle.language.specs.declared.Answer.TheVariants.{Refused}
 use Rattle.language.specs.Limits.{line_limit, lines_limit, data_limit, omit_limit, loop_limit, process_limit, text_limit}
 use Rattle.language.specs.Lines.{lines_of}
 use Rattle.language.specs.Script.{Statement, Meaning, comment, blank, process, set_ex, says, set_encode, set_stopbits, set_omit, set_lfext, fault, Settings, Script, processes, Shape, opens, closes, stays, shape, data_of}
@@ -25,7 +25,8 @@ use Rattle.language.specs.Meaning.{meaning}
 use Rattle.language.specs.Column.{column_of, column_in, clock_taken}
 use Rattle.language.specs.Stretch.{stretch_of}
 use Rattle.language.specs.Draft.{Result, accepted, refused, Draft, start, LineTaken, going, stop, now, broken, nest, take_nested, take_statement, beginning, take_process, take_omit, take_meaning, take_counted, take_line, is_comment, count_line, go_on, refused_whole, stretched, finished, fold, result_of}
-use Rattle.language.specs.Answer.{fault_number, answered, script_from, compiled}
+use Rattle.language.specs.declared.Refusal.{Refusal}
+use Rattle.language.specs.Answer.{refusal_of, fault_number, answered, script_from, compiled}
 use Rattle.language.proofs.Cutting.{AllInLine, text_lines}
 use Rattle.language.proofs.ClockPlace.{clock_first_bad}
 use Rattle.language.proofs.Column.{column_told, one_column}
@@ -195,12 +196,15 @@ module _ (text : List ℕ) where
       by_cases Told (leb (length text) text_limit) (fold stretch_of (lines_of text) 1 start) (refused_whole TextTooLong 0)
       (λ e. fold_told (lines_of text) [] 1 start refl refl (text_lines text h)) (λ e. refl)
 
-  answer_told : (r : Result) → Told r → (f : TextFault) (row column : ℕ) → (answered r).answer ≡ Refused f row column → ColumnOf text row column f
+  answer_told : (r : Result) → Told r → (f : TextFault) (row column : ℕ) → (answered r).answer ≡ Err (refusal_of f row column) → ColumnOf text row column f
   unfolding answered
   answer_told (accepted s) t f row column e = true_is_false (cc)
   answer_told (refused g n k) t f row column e =
-      let same : refused g n k ≡ refused f row column = cc in
-      subst Told same t
+      let same : refusal_of g n k ≡ refusal_of f row column = cc in
+      let a : g ≡ f = ap (λ (r : Refusal). r.fault) same in
+      let b : n ≡ row = ap (λ (r : Refusal). r.line) same in
+      let c : k ≡ column = ap (λ (r : Refusal). r.column) same in
+      rw (← a, ← b, ← c) t
 
 pub columns_told : ColumnsTold
 unfolding compiled script_from

@@ -8,6 +8,7 @@ use native.Mathlib.Omega.{arith}
 use lib.Dec.{ltb}
 use lib.ListN.{length}
 use lib.Seq.{sets}
+use Rattle.std.specs.Prelude.{Ok, Err}
 use Rattle.reader.proofs.Tests.{by_cases}
 use Rattle.language.specs.declared.Table.{Table}
 use Rattle.language.specs.Limits.{process_limit}
@@ -15,18 +16,15 @@ use Rattle.accepted.specs.Accepted.{table_right}
 use Rattle.process.specs.declared.State.{State}
 use Rattle.process.specs.declared.RunRefusal.{RunRefusal}
 use Rattle.process.specs.declared.RunRefusal.TheVariants.{Busy, BadReading, NoSuchSignal, SmallBuffer, BadTable}
-use Rattle.process.specs.declared.Taken.TheVariants as taken
-use Rattle.process.specs.declared.Received.TheVariants as received
-use Rattle.process.specs.declared.Gulped.TheVariants as gulped
 use Rattle.statement.specs.declared.outcome.Outcome.TheVariants.{Quiet, Sent, Recorded, Rts, Fchange, Pause, Resume, Plain, Refused}
+use Rattle.process.specs.declared.Copies.{Copies}
+use Rattle.process.specs.declared.Gulp.{Gulp}
 use Rattle.process.specs.declared.Event.{Event}
-use Rattle.process.specs.declared.ByteEvent.{ByteEvent}
-use Rattle.process.specs.declared.GulpEvent.{GulpEvent}
 use Rattle.runner.specs.declared.Drained.{Drained}
 use Rattle.process.specs.State.{run_refusal_number, busy}
 use Rattle.events.specs.Events.{refused, took, tick_event, reading_right, reading_event, level_event}
 use Rattle.events.specs.Receiving.{ranges_right, byte_event}
-use Rattle.events.specs.Gulps.{Gulping, bytes_gulp, gulp_refused, gulp_took, ticks_event, bytes_event, bytes_records, records_after}
+use Rattle.events.specs.Gulps.{Gulping, bytes_gulp, gulp_took, ticks_event, bytes_event, bytes_records, records_after}
 use Rattle.statement.specs.Moving.{moved, cell_at}
 use Rattle.statement.specs.Saying.{outcome_of}
 use Rattle.runner.specs.Draining.{lowest, turn_of, does, writes, state_after, unaltered, drained, buffer_after, counts_after}
@@ -52,12 +50,12 @@ refusal_numbered BadTable = inr (omega arith, omega arith)
 
 reply_numbered : (r : Reply) → Numbered (reply_number r)
 unfolding reply_number
-reply_numbered (event taken.Took) = inl refl
-reply_numbered (event (taken.Refused r)) = refusal_numbered r
-reply_numbered (calls.received (received.Took c)) = inl refl
-reply_numbered (calls.received (received.Refused r)) = refusal_numbered r
-reply_numbered (gulp (gulped.Took g) records) = inl refl
-reply_numbered (gulp (gulped.Refused r) records) = refusal_numbered r
+reply_numbered (event (Ok tt)) = inl refl
+reply_numbered (event (Err r)) = refusal_numbered r
+reply_numbered (calls.received (Ok c)) = inl refl
+reply_numbered (calls.received (Err r)) = refusal_numbered r
+reply_numbered (gulp (Ok g) records) = inl refl
+reply_numbered (gulp (Err r) records) = refusal_numbered r
 reply_numbered (outcome Quiet bytes) = inl refl
 reply_numbered (outcome (Sent n) bytes) = inl refl
 reply_numbered (outcome (Recorded n) bytes) = inl refl
@@ -72,13 +70,13 @@ reply_numbered (outcome (Refused r) bytes) = refusal_numbered r
 
 module _ (b : Box) where
   -- an event that is refused leaves the box, by its tests
-  abbrev Leaves : Event → Type 0
+  abbrev Leaves : Event (Unit {0}) → Type 0
   Leaves e = 0 < taken_number e.answer → boxed e.state b.counts ≡ b
 
-  abbrev LeavesByte : ByteEvent → Type 0
+  abbrev LeavesByte : Event Copies → Type 0
   LeavesByte e = 0 < received_number e.answer → boxed e.state b.counts ≡ b
 
-  abbrev LeavesGulp : GulpEvent → Type 0
+  abbrev LeavesGulp : Event Gulp → Type 0
   LeavesGulp e = 0 < gulped_number e.answer → boxed e.state b.counts ≡ b
 
   took_leaves : (s : State) → Leaves (took s)
@@ -102,7 +100,7 @@ drain_leaves false found false s d out written e l = (refl, refl)
 
 -- what the two tests of a run of bytes decide: where it is refused it records nothing
 gulp_spares : (right ready : Bool) (s : State) (g : Gulping State) (out : List ℕ) →
-    0 < gulped_number (cond right (cond ready (gulp_refused s Busy) (gulp_took g)) (gulp_refused s BadTable)).answer →
+    0 < gulped_number (cond right (cond ready (refused s Busy) (gulp_took g)) (refused s BadTable)).answer →
     sets out 0 (cond right (cond ready [] g.records) []) ≡ out
 gulp_spares true true s g out l = refl
 gulp_spares true false s g out l = absurd (omega arith)

@@ -7,6 +7,7 @@ use Prim.Native.Nat.{ℕ, zero, suc, ◌+◌, ◌-◌, ◌≤◌, ◌<◌}
 use native.Mathlib.Omega.{arith}
 use lib.ListN.{length, take, replicate, length-append, length-replicate}
 use lib.Seq.{sets}
+use Rattle.std.specs.Prelude.{Ok}
 use Rattle.reader.specs.Bytes.{all}
 use Rattle.reader.proofs.Tests.{both, true_is_false}
 use Rattle.language.specs.declared.Table.{Table}
@@ -14,14 +15,12 @@ use Rattle.accepted.specs.Accepted.{table_right}
 use Rattle.process.specs.declared.State.{State}
 use Rattle.process.specs.declared.Copies.{Copies}
 use Rattle.process.specs.declared.RunRefusal.TheVariants.{Busy, BadTable}
-use Rattle.process.specs.declared.Received.TheVariants as received
 use Rattle.process.specs.declared.Gulp.{Gulp}
-use Rattle.process.specs.declared.Gulped.TheVariants.{Took}
 use Rattle.process.specs.State.{busy}
 use Rattle.events.specs.Recording.{times_recorded}
-use Rattle.events.specs.Events.{tick_event}
+use Rattle.events.specs.Events.{refused, tick_event}
 use Rattle.events.specs.Receiving.{ranges_right, byte_event}
-use Rattle.events.specs.Gulps.{Gulping, stop, more, ticks_gulp, bytes_gulp, gulp_refused, gulp_took, ticks_event, bytes_event, bytes_records, records_after}
+use Rattle.events.specs.Gulps.{Gulping, stop, more, ticks_gulp, bytes_gulp, gulp_took, ticks_event, bytes_event, bytes_records, records_after}
 use Rattle.events.proofs.Copying.{times_few}
 use Rattle.events.proofs.Ranges.{ranges_stay}
 use Rattle.runner.specs.Calls as calls
@@ -89,11 +88,11 @@ module _ (t : Table) (counts : List ℕ) where
     alone = (byte_event t.pool t.heads z x).state
 
     -- a byte that is right is not refused at a quiet moment
-    byte_taken_lem : ranges_right t.heads z ≡ true → busy z ≡ false → (byte_event t.pool t.heads z x).answer ≡ received.Took (record { count = times_recorded t.heads z.paused x })
+    byte_taken_lem : ranges_right t.heads z ≡ true → busy z ≡ false → (byte_event t.pool t.heads z x).answer ≡ Ok (record { count = times_recorded t.heads z.paused x })
     unfolding byte_event
     byte_taken_lem r q = rw (r, q)
 
-    module _ (c : Copies) (e : (byte_event t.pool t.heads z x).answer ≡ received.Took c) where
+    module _ (c : Copies) (e : (byte_event t.pool t.heads z x).answer ≡ Ok c) where
       said_taken : was_taken (called t (byte x) (boxed z counts)).reply ≡ true
       unfolding calls.called was_taken
       said_taken = rw e
@@ -169,11 +168,11 @@ module _ (t : Table) (b : Box) where
           longest = ⊎_elim inl (λ u. inr (ap (λ (y : Box). busy y.state) (ticks_after q) ∙ u)) i.longest;
         }
 
-    of_ticks_lem : (g : Gulp) (records : List ℕ) → (called t (ticks n) b).reply ≡ gulp (Took g) records → TicksAreSingle t b n g records
+    of_ticks_lem : (g : Gulp) (records : List ℕ) → (called t (ticks n) b).reply ≡ gulp (Ok g) records → TicksAreSingle t b n g records
     unfolding calls.called ticks_event
     of_ticks_lem g records = go (busy b.state) refl
       where
-        go : (u : Bool) → busy b.state ≡ u → gulp (cond u (gulp_refused b.state Busy) (gulp_took (ticks_gulp b.state n))).answer [] ≡ gulp (Took g) records → TicksAreSingle t b n g records
+        go : (u : Bool) → busy b.state ≡ u → gulp (cond u (refused b.state Busy) (gulp_took (ticks_gulp b.state n))).answer [] ≡ gulp (Ok g) records → TicksAreSingle t b n g records
         go true q e = true_is_false (cc)
         go false q e =
             let is : g ≡ told (ticks_gulp b.state n) = cc in
@@ -191,12 +190,12 @@ module _ (t : Table) (b : Box) where
       is : g ≡ told heard
       wrote : records ≡ heard.records
 
-    is_accepted_lem : (g : Gulp) (records : List ℕ) → (called t (bytes run room) b).reply ≡ gulp (Took g) records → Accepted g records
+    is_accepted_lem : (g : Gulp) (records : List ℕ) → (called t (bytes run room) b).reply ≡ gulp (Ok g) records → Accepted g records
     unfolding calls.called bytes_event bytes_records
     is_accepted_lem g records = go (ranges_right t.heads b.state) (busy b.state) refl refl
       where
         go : (right ready : Bool) → ranges_right t.heads b.state ≡ right → busy b.state ≡ ready →
-            gulp (cond right (cond ready (gulp_refused b.state Busy) (gulp_took heard)) (gulp_refused b.state BadTable)).answer (cond right (cond ready [] heard.records) []) ≡ gulp (Took g) records →
+            gulp (cond right (cond ready (refused b.state Busy) (gulp_took heard)) (refused b.state BadTable)).answer (cond right (cond ready [] heard.records) []) ≡ gulp (Ok g) records →
             Accepted g records
         go true true r q e = true_is_false (cc)
         go true false r q e = record { right = r; quiet = q; is = cc; wrote = cc }
@@ -221,7 +220,7 @@ module _ (t : Table) (b : Box) where
         longest = ⊎_elim inl (⊎_elim (λ u. inr (inl (ap (λ (y : Box). busy y.state) after ∙ u))) (λ l. inr (inr l))) came.longest;
       }
 
-    of_bytes_lem : (g : Gulp) (records : List ℕ) → (called t (bytes run room) b).reply ≡ gulp (Took g) records → BytesAreSingle t b run room g records
+    of_bytes_lem : (g : Gulp) (records : List ℕ) → (called t (bytes run room) b).reply ≡ gulp (Ok g) records → BytesAreSingle t b run room g records
     of_bytes_lem g records e = let a = is_accepted_lem g records e in rw (a.is, a.wrote) (bytes_single a.right a.quiet)
 
   module _ (run out : List ℕ) (g : Gulp) (records : List ℕ) where
@@ -229,7 +228,7 @@ module _ (t : Table) (b : Box) where
     unfolding records_after bytes_records
     wrote_after a = rw (a.right, a.quiet, a.wrote)
 
-    bytes_wrote : (called t (bytes run (length out)) b).reply ≡ gulp (Took g) records → RecordsWrote t b run out records
+    bytes_wrote : (called t (bytes run (length out)) b).reply ≡ gulp (Ok g) records → RecordsWrote t b run out records
     bytes_wrote e =
         let a = is_accepted_lem run (length out) g records e in
         let few : length records ≤ length out = rw a.wrote (came run (length out) a.right a.quiet).fits in

@@ -8,23 +8,23 @@ use lib.Dec.{leb}
 use lib.ListN.{length}
 use lib.Seq.{sets}
 use Rattle.reader.proofs.Tests.{true_is_false}
-use Rattle.hex_data.specs.declared.HexRead.TheVariants.{Bytes, Full, Wrong}
+use Rattle.std.specs.Prelude as std
+use Rattle.std.specs.Prelude.{Some, None, Ok, Err}
+use Rattle.hex_data.specs.declared.HexFault.{HexFault}
+use Rattle.hex_data.specs.declared.HexFault.TheVariants.{Full, Wrong}
 use Rattle.hex_data.specs.Hex.{Said, hex_into, hex_put, good, bad}
-use Rattle.writer.specs.declared.Put.TheVariants.{Next, NoRoom}
 use Rattle.writer.specs.Put.{put_answer, put_into}
 use Rattle.language.specs.declared.Table.{Table}
 use Rattle.language.specs.declared.TextFault.{TextFault}
 use Rattle.language.specs.declared.TextFault.TheVariants as fault
-use Rattle.language.specs.declared.Answer.TheVariants as answer
 use Rattle.language.specs.Draft.{Result, accepted, refused}
 use Rattle.language.specs.Table.{zero_table}
 use Rattle.language.specs.Answer as texts
-use Rattle.language.specs.Answer.{answered, script_from, compiled}
+use Rattle.language.specs.Answer.{refusal_of, answered, script_from, compiled}
 use Rattle.record.specs.Logging.{record_of, record_answer, record_into}
 use Rattle.accepted.specs.Accepted.{table_right}
 use Rattle.lister.specs.declared.ListRefusal as refusals
 use Rattle.lister.specs.declared.ListRefusal.TheVariants as wrong
-use Rattle.lister.specs.declared.Listed.TheVariants.{Wrote, Refused}
 use Rattle.lister.specs.Listed as tables
 use Rattle.lister.specs.Listed.{listing_of, list_answer, list_into}
 use Rattle.language.proofs.Numbers.{fault_numbers_differ}
@@ -50,7 +50,7 @@ text_numbered fault.LoopLeftOpen = (omega arith, omega arith)
 text_numbered fault.TooManyProcesses = (omega arith, omega arith)
 text_numbered fault.StretchTooLong = (omega arith, omega arith)
 
-zeroed : (r : Result) (f : TextFault) (row column : ℕ) → (answered r).answer ≡ answer.Refused f row column → (answered r).table ≡ zero_table
+zeroed : (r : Result) (f : TextFault) (row column : ℕ) → (answered r).answer ≡ Err (refusal_of f row column) → (answered r).table ≡ zero_table
 unfolding answered
 zeroed (accepted s) f row column e = true_is_false (cc)
 zeroed (refused g n k) f row column e = refl
@@ -67,7 +67,7 @@ table_numbered wrong.BadTable = (omega arith, omega arith)
 table_numbered wrong.NoRoom = (omega arith, omega arith)
 
 unaltered_by : (right room : Bool) (n : ℕ) (w : refusals.ListRefusal) (out written : List ℕ) →
-    cond right (cond room (Wrote n) (Refused wrong.NoRoom)) (Refused wrong.BadTable) ≡ Refused w → cond right (cond room written out) out ≡ out
+    cond {A = std.Result ℕ refusals.ListRefusal} right (cond room (Ok n) (Err wrong.NoRoom)) (Err wrong.BadTable) ≡ Err w → cond right (cond room written out) out ≡ out
 unaltered_by true true n w out written e = true_is_false (cc)
 unaltered_by true false n w out written e = refl
 unaltered_by false room n w out written e = refl
@@ -81,25 +81,25 @@ refuses_table t out = record {
 
 -- ---- the writers
 
-kept_by : (room : Bool) (n : ℕ) (d written : List ℕ) → cond room (Next n) NoRoom ≡ NoRoom → cond room written d ≡ d
+kept_by : (room : Bool) (n : ℕ) (d written : List ℕ) → cond {A = std.Option ℕ} room (Some n) None ≡ None → cond room written d ≡ d
 kept_by true n d written e = true_is_false (cc)
 kept_by false n d written e = refl
 
-full_kept : (d : List ℕ) (s : Said) (to : ℕ) → hex_into s d to ≡ Full → hex_put s d to ≡ d
+full_kept : (d : List ℕ) (s : Said) (to : ℕ) → hex_into s d to ≡ Err Full → hex_put s d to ≡ d
 unfolding hex_into hex_put
 full_kept d (bad at) to e = refl
 full_kept d (good bs) to e = go (leb (to + length bs) (length d)) e
   where
-    go : (room : Bool) → cond room (Bytes (length bs)) Full ≡ Full → cond room (sets d to bs) d ≡ d
+    go : (room : Bool) → cond {A = std.Result ℕ HexFault} room (Ok (length bs)) (Err Full) ≡ Err Full → cond room (sets d to bs) d ≡ d
     go true q = true_is_false (cc)
     go false q = refl
 
-wrong_kept : (d : List ℕ) (s : Said) (to at : ℕ) → hex_into s d to ≡ Wrong at → hex_put s d to ≡ d
+wrong_kept : (d : List ℕ) (s : Said) (to at : ℕ) → hex_into s d to ≡ Err (Wrong at) → hex_put s d to ≡ d
 unfolding hex_into hex_put
 wrong_kept d (bad x) to at e = refl
 wrong_kept d (good bs) to at e = go (leb (to + length bs) (length d)) e
   where
-    go : (room : Bool) → cond room (Bytes (length bs)) Full ≡ Wrong at → cond room (sets d to bs) d ≡ d
+    go : (room : Bool) → cond {A = std.Result ℕ HexFault} room (Ok (length bs)) (Err Full) ≡ Err (Wrong at) → cond room (sets d to bs) d ≡ d
     go true q = true_is_false (cc)
     go false q = refl
 

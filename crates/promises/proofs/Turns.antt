@@ -8,6 +8,7 @@ use lib.Dec.{ltb}
 use lib.ListN.{length, get_or, take, replicate}
 use lib.Seq.{get_or-set_same, get_or-set_other}
 use borrow.Author.Tests.{ltb-true, ltb-false}
+use Rattle.std.specs.Prelude.{Ok, Err}
 use Rattle.reader.proofs.Tests.{true_is_false, by_cases}
 use Rattle.language.specs.declared.Heads.{Heads}
 use Rattle.language.specs.declared.Table.{Table}
@@ -17,17 +18,15 @@ use Rattle.process.specs.declared.State.{State}
 use Rattle.process.specs.declared.Copies.{Copies}
 use Rattle.process.specs.declared.RunRefusal.{RunRefusal}
 use Rattle.process.specs.declared.RunRefusal.TheVariants.{Busy, BadReading, NoSuchSignal, SmallBuffer, BadTable}
-use Rattle.process.specs.declared.Received.TheVariants as received
 use Rattle.statement.specs.declared.outcome.Outcome.TheVariants.{Quiet, Refused}
+use Rattle.process.specs.declared.Gulp.{Gulp}
 use Rattle.process.specs.declared.Event.{Event}
-use Rattle.process.specs.declared.ByteEvent.{ByteEvent}
-use Rattle.process.specs.declared.GulpEvent.{GulpEvent}
 use Rattle.runner.specs.declared.Drained.{Drained}
 use Rattle.process.specs.Waiting.{byte_taken}
 use Rattle.process.specs.State.{busy}
 use Rattle.events.specs.Events.{refused, took, tick_event, reading_right, reading_event, level_event}
 use Rattle.events.specs.Receiving.{answered_with, ranges_right, byte_event}
-use Rattle.events.specs.Gulps.{Gulping, ticks_gulp, bytes_gulp, gulp_refused, gulp_took, ticks_event, bytes_event}
+use Rattle.events.specs.Gulps.{Gulping, ticks_gulp, bytes_gulp, gulp_took, ticks_event, bytes_event}
 use Rattle.statement.specs.Moving.{moved, cell_at}
 use Rattle.statement.specs.Saying.{outcome_of}
 use Rattle.runner.specs.Draining.{lowest, nobody, turn_of, does, writes, unaltered, state_after, drained, counts_after}
@@ -44,16 +43,16 @@ use Rattle.promises.proofs.Gulps.{ticks_came, bytes_came}
 
 module _ (pool : List ℕ) (h : Heads) (s : State) (b : ℕ) where
   counts_taken : (right ready : Bool) (c k : Copies) (taken : State) → taken.processes ≡ map (byte_taken pool b) s.processes
-      → (cond right (cond ready (answered_with s (received.Refused Busy)) (answered_with taken (received.Took k))) (answered_with s (received.Refused BadTable))).answer ≡ received.Took c
-      → (cond right (cond ready (answered_with s (received.Refused Busy)) (answered_with taken (received.Took k))) (answered_with s (received.Refused BadTable))).state.processes
+      → (cond right (cond ready (answered_with s (Err Busy)) (answered_with taken (Ok k))) (answered_with s (Err BadTable))).answer ≡ Ok c
+      → (cond right (cond ready (answered_with s (Err Busy)) (answered_with taken (Ok k))) (answered_with s (Err BadTable))).state.processes
       ≡ map (byte_taken pool b) s.processes
   counts_taken true true c k taken e q = true_is_false (cc)
   counts_taken true false c k taken e q = e
   counts_taken false ready c k taken e q = true_is_false (cc)
 
   alike_by : (right ready : Bool) (paused : Bool) (k l : Copies) (ps : List Process) →
-      (cond right (cond ready (answered_with (with_paused s paused) (received.Refused Busy)) (answered_with (record { processes = ps; reading = s.reading; levels = s.levels; paused = paused }) (received.Took k))) (answered_with (with_paused s paused) (received.Refused BadTable))).state.processes
-      ≡ (cond right (cond ready (answered_with s (received.Refused Busy)) (answered_with (record { processes = ps; reading = s.reading; levels = s.levels; paused = s.paused }) (received.Took l))) (answered_with s (received.Refused BadTable))).state.processes
+      (cond right (cond ready (answered_with (with_paused s paused) (Err Busy)) (answered_with (record { processes = ps; reading = s.reading; levels = s.levels; paused = paused }) (Ok k))) (answered_with (with_paused s paused) (Err BadTable))).state.processes
+      ≡ (cond right (cond ready (answered_with s (Err Busy)) (answered_with (record { processes = ps; reading = s.reading; levels = s.levels; paused = s.paused }) (Ok l))) (answered_with s (Err BadTable))).state.processes
   alike_by true true paused k l ps = refl
   alike_by true false paused k l ps = refl
   alike_by false ready paused k l ps = refl
@@ -76,7 +75,7 @@ module _ (pool : List ℕ) (h : Heads) (s : State) (b : ℕ) where
 -- ---- "An event is taken only when no process is ready"
 
 module _ (b : Box) where
-  abbrev Fair : Event → Type 0
+  abbrev Fair : Event (Unit {0}) → Type 0
   Fair e = TakenWhenQuiet b (answered_by b.counts e)
 
   -- refused, it alters nothing
@@ -93,17 +92,17 @@ module _ (b : Box) where
     only_if : (u : Bool) (s : State) (r : RunRefusal) → Fair (cond u (took s) (refused b.state r))
     only_if u s r = by_cases Fair u (took s) (refused b.state r) (λ v. took_fair s) (λ v. refused_fair r)
 
-  unless_busy : (e : Event) → (busy b.state ≡ false → Fair e) → Fair (cond (busy b.state) (refused b.state Busy) e)
+  unless_busy : (e : Event (Unit {0})) → (busy b.state ≡ false → Fair e) → Fair (cond (busy b.state) (refused b.state Busy) e)
   unless_busy e f = by_cases Fair (busy b.state) (refused b.state Busy) e (λ u. refused_fair Busy) f
 
-  abbrev FairByte : ByteEvent → Type 0
+  abbrev FairByte : Event Copies → Type 0
   FairByte e = TakenWhenQuiet b (received_by b.counts e)
 
-  refused_byte : (r : RunRefusal) → FairByte (answered_with b.state (received.Refused r))
+  refused_byte : (r : RunRefusal) → FairByte (answered_with b.state (Err r))
   unfolding replies.was_taken
   refused_byte r = record { only = λ e. true_is_false (sym e); unaltered = λ e. refl }
 
-  took_byte_lem : (s : State) (c : Copies) → busy b.state ≡ false → FairByte (answered_with s (received.Took c))
+  took_byte_lem : (s : State) (c : Copies) → busy b.state ≡ false → FairByte (answered_with s (Ok c))
   unfolding replies.was_taken
   took_byte_lem s c quiet = record { only = λ e. quiet; unaltered = λ e. true_is_false e }
 
@@ -115,10 +114,10 @@ module _ (b : Box) where
       (λ u. refused_byte BadTable)
 
   -- a gulp too: one that takes none leaves the box
-  abbrev FairGulp : List ℕ → GulpEvent → Type 0
+  abbrev FairGulp : List ℕ → Event Gulp → Type 0
   FairGulp records e = TakenWhenQuiet b (gulped_by b.counts e records)
 
-  refused_gulp : (records : List ℕ) (r : RunRefusal) → FairGulp records (gulp_refused b.state r)
+  refused_gulp : (records : List ℕ) (r : RunRefusal) → FairGulp records (refused b.state r)
   unfolding replies.was_taken
   refused_gulp records r = record { only = λ e. true_is_false (sym e); unaltered = λ e. refl }
 

@@ -1,6 +1,6 @@
 -- Document 01, "Both sides of each bound": every case marked P, in one table under one statement about the definitions. Assumes nothing: these are
 -- definitions.
-use Rattle.std.specs.Prelude.{◌≡◌, List, [], ◌∷◌, map, ℕ, take}
+use Rattle.std.specs.Prelude.{◌≡◌, List, [], ◌∷◌, map, ℕ, take, Ok, Err}
 use Prim.Native.String.{String}
 use Rattle.std.proofs.Math.Seq.{slice}
 use Rattle.reader.specs.Ascii.{ascii}
@@ -8,16 +8,13 @@ use Rattle.figures.specs.Flat.{fragment}
 use Rattle.figures.specs.Written.{written, longest_run}
 use Rattle.language.specs.declared.Cell.{Cell}
 use Rattle.language.specs.declared.Cell.TheVariants.{WaitTime}
-use Rattle.language.specs.declared.Answer.{Answer}
-use Rattle.language.specs.declared.Answer.TheVariants.{Accepted, Refused}
 use Rattle.language.specs.declared.Table.{Table}
 use Rattle.language.specs.Cell.{decoded}
 use Rattle.language.specs.Script.{Statement, processes}
 use Rattle.language.specs.Stretch.{mark_of}
 use Rattle.language.specs.Draft.{Result, accepted, refused, result_of}
-use Rattle.language.specs.Answer.{fault_number, script_from, compiled}
+use Rattle.language.specs.Answer.{CompilerAnswer, fault_number, script_from, compiled}
 use Rattle.accepted.specs.Accepted.{table_right}
-use Rattle.process.specs.declared.Taken.TheVariants as taken
 use Rattle.runner.specs.Calls.{Box, Call, start, byte, drain, Reply, event, replies}
 use Rattle.bounded.specs.Replies.{once, quiet, plain, sent, recorded}
 use Rattle.running.specs.Running as script
@@ -29,9 +26,9 @@ pub data ReadBack : Type 0 where
   number : ℕ → ℕ → ℕ → ReadBack
 
 -- what an answer is read back as
-abbrev pub read_back : Answer → ReadBack
-read_back (Accepted k) = stretch k
-read_back (Refused f row column) = number (fault_number f) row column
+abbrev pub read_back : CompilerAnswer → ReadBack
+read_back (Ok k) = stretch k
+read_back (Err r) = number (fault_number r.fault) r.line r.column
 
 -- the statements of each process, as the table has them
 abbrev pub statements_from : List ℕ → ℕ → List ℕ → List (List Cell)
@@ -62,8 +59,8 @@ pub data Case : Type 0 where
 
 -- a run begins with a start, whatever the box held before: what the script that the text says does, and what the runner does with its table
 pub record Runs (text : List ℕ) (qs : List Call) (rs : List Reply) : Type 0 where
-  pub script : (y : script.Box) → replies_of (script_from text) y qs ≡ event taken.Took ∷ rs
-  pub runner : (b : Box) → replies table_right (compiled text).table b (start ∷ qs) ≡ event taken.Took ∷ rs
+  pub script : (y : script.Box) → replies_of (script_from text) y qs ≡ event (Ok tt) ∷ rs
+  pub runner : (b : Box) → replies table_right (compiled text).table b (start ∷ qs) ≡ event (Ok tt) ∷ rs
 
 -- the table of a refused text has no process, so one with statements is an accepted text's
 abbrev pub CaseSays : Case → Type 0

@@ -1,20 +1,19 @@
 -- No. 3: "Readers of numbers, hex and clock values must also tell the place of the first byte they can't take, and every compile refusal gives a
 -- column from 1". Assumes nothing: these are definitions.
-use Rattle.std.specs.Prelude.{◌≡◌, Bool, true, List, ◌∷◌, ◌++◌, ℕ, suc, ◌+◌, ◌≤◌, ◌<◌, length, take}
+use Rattle.std.specs.Prelude.{◌≡◌, Bool, true, List, ◌∷◌, ◌++◌, ℕ, suc, ◌+◌, ◌≤◌, ◌<◌, length, take, Err}
 use Rattle.reader.specs.Bytes.{all, is_byte}
 use Rattle.reader.specs.FirstBad.{FirstBad}
 use Rattle.numbers.specs.Number.{number_at, number_place, is_whole, pair_at}
 use Rattle.hex_data.specs.Hex.{is_good, hex_at, said_place, is_byte_read, hex_byte_at, byte_place}
 use Rattle.language.specs.declared.TextFault.{TextFault}
 use Rattle.language.specs.declared.TextFault.TheVariants.{TextTooLong, LineTooLong, TooManyLines, NoSuchName, BadRest, TooMuchData, TooManyOmits, TooManyLoops, EndWithoutLoop, LoopLeftOpen, TooManyProcesses, StretchTooLong}
-use Rattle.language.specs.declared.Answer.TheVariants.{Refused}
 use Rattle.language.specs.Limits.{line_limit}
 use Rattle.language.specs.Lines.{lines_of}
 use Rattle.language.specs.Clock.{clock_of}
 use Rattle.language.specs.Script.{fault}
 use Rattle.language.specs.Meaning.{meaning}
 use Rattle.language.specs.Column.{ColumnTold}
-use Rattle.language.specs.Answer.{compiled}
+use Rattle.language.specs.Answer.{refusal_of, compiled}
 
 -- ---- "the place of the first byte they can't take"
 
@@ -63,5 +62,5 @@ ColumnOf text row column StretchTooLong = column ≡ 0
 -- of every text there can be
 pub record ColumnsTold : Type 0 where
   pub refused :
-      (text : List ℕ) → all is_byte text ≡ true → (f : TextFault) (row column : ℕ) → (compiled text).answer ≡ Refused f row column →
+      (text : List ℕ) → all is_byte text ≡ true → (f : TextFault) (row column : ℕ) → (compiled text).answer ≡ Err (refusal_of f row column) →
       ColumnOf text row column f

@@ -1,19 +1,16 @@
 -- Demand 1: "The box takes every script, event, table and state there can be, and always comes back. Bad input is refused by a
 -- number in document 01. A refusal hands back the state it was given and leaves each lent buffer with the bytes it had."
 -- That it always comes back is in the functions: none asks anything. Assumes nothing: these are definitions.
-use Rattle.std.specs.Prelude.{◌≡◌, List, ◌⊎◌, ℕ, ◌≤◌, ◌<◌, length}
-use Rattle.hex_data.specs.declared.HexRead.TheVariants.{Full, Wrong}
+use Rattle.std.specs.Prelude.{◌≡◌, List, ◌⊎◌, ℕ, ◌≤◌, ◌<◌, length, None, Err}
+use Rattle.hex_data.specs.declared.HexFault.TheVariants.{Full, Wrong}
 use Rattle.hex_data.specs.Hex.{Said, hex_into, hex_put}
-use Rattle.writer.specs.declared.Put.TheVariants.{NoRoom}
 use Rattle.writer.specs.Put.{put_answer, put_into}
 use Rattle.language.specs.declared.Table.{Table}
 use Rattle.language.specs.declared.TextFault.{TextFault}
-use Rattle.language.specs.declared.Answer.TheVariants as answer
 use Rattle.language.specs.Table.{zero_table}
 use Rattle.language.specs.Answer as texts
-use Rattle.language.specs.Answer.{compiled}
+use Rattle.language.specs.Answer.{refusal_of, compiled}
 use Rattle.lister.specs.declared.ListRefusal as refusals
-use Rattle.lister.specs.declared.Listed.TheVariants as listed
 use Rattle.lister.specs.Listed as tables
 use Rattle.lister.specs.Listed.{list_answer, list_into}
 use Rattle.process.specs.declared.Reading.{Reading}
@@ -42,19 +39,19 @@ pub record Spares (t : Table) (b : Box) (out : List ℕ) : Type 0 where
 -- the compiler: its numbers are 1 to 12, and "a table handed back by value with a refusal is all zeros"
 pub record RefusesText (text : List ℕ) : Type 0 where
   pub numbered : (f : TextFault) → (1 ≤ texts.fault_number f) × (texts.fault_number f ≤ 12)
-  pub zeroed : (f : TextFault) (row column : ℕ) → (compiled text).answer ≡ answer.Refused f row column → (compiled text).table ≡ zero_table
+  pub zeroed : (f : TextFault) (row column : ℕ) → (compiled text).answer ≡ Err (refusal_of f row column) → (compiled text).table ≡ zero_table
 
 -- the lister: its numbers are 25 and 26, and the buffer that is lent to it has the bytes it had
 pub record RefusesTable (t : Table) (out : List ℕ) : Type 0 where
   pub numbered : (w : refusals.ListRefusal) → (25 ≤ tables.list_refusal_number w) × (tables.list_refusal_number w ≤ 26)
-  pub unaltered : (w : refusals.ListRefusal) → list_answer t out ≡ listed.Refused w → list_into t out ≡ out
+  pub unaltered : (w : refusals.ListRefusal) → list_answer t out ≡ Err w → list_into t out ≡ out
 
 -- the writers, of any bytes, and the reader of hex data into a lent slice: where they do not write all, they write nothing
 pub record WritesAllOrNothing (d : List ℕ) : Type 0 where
-  pub put : (bs : List ℕ) (at : ℕ) → put_answer bs d at ≡ NoRoom → put_into bs d at ≡ d
-  pub hex_full : (s : Said) (to : ℕ) → hex_into s d to ≡ Full → hex_put s d to ≡ d
-  pub hex_wrong : (s : Said) (to at : ℕ) → hex_into s d to ≡ Wrong at → hex_put s d to ≡ d
-  pub log : (r : Reading) (count : ℕ) (text : List ℕ) → record_answer r count text d ≡ NoRoom → record_into r count text d ≡ d
+  pub put : (bs : List ℕ) (at : ℕ) → put_answer bs d at ≡ None → put_into bs d at ≡ d
+  pub hex_full : (s : Said) (to : ℕ) → hex_into s d to ≡ Err Full → hex_put s d to ≡ d
+  pub hex_wrong : (s : Said) (to at : ℕ) → hex_into s d to ≡ Err (Wrong at) → hex_put s d to ≡ d
+  pub log : (r : Reading) (count : ℕ) (text : List ℕ) → record_answer r count text d ≡ None → record_into r count text d ≡ d
 
 -- all of it: every lent slice, every text, every table with every lent buffer, every call on every box
 pub record AltersNothing : Type 0 where

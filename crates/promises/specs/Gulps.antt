@@ -1,14 +1,13 @@
 -- No. 2: "Let one call take a run of bytes, or a number of ticks. It stops after the first that leaves a process ready, or when fewer than two places remain
 -- for recorded bytes, or before a later one that alone would be refused, and says how many it took; state and records equal those of single events." Of every
 -- table and box there can be. Assumes nothing: these are definitions.
-use Rattle.std.specs.Prelude.{◌≡◌, true, List, [], ◌∷◌, ◌++◌, map, ◌⊎◌, ℕ, ◌+◌, ◌≤◌, ◌<◌, length, take, drop, replicate}
+use Rattle.std.specs.Prelude.{◌≡◌, true, List, [], ◌∷◌, ◌++◌, map, ◌⊎◌, ℕ, ◌+◌, ◌≤◌, ◌<◌, length, take, drop, replicate, Ok}
 use Rattle.reader.specs.Bytes.{all}
 use Rattle.language.specs.declared.Heads.{Heads}
 use Rattle.language.specs.declared.Table.{Table}
 use Rattle.accepted.specs.Accepted.{table_right}
 use Rattle.process.specs.declared.State.{State}
 use Rattle.process.specs.declared.Gulp.{Gulp}
-use Rattle.process.specs.declared.Gulped.TheVariants.{Took}
 use Rattle.process.specs.State.{busy}
 use Rattle.events.specs.Receiving.{ranges_right, byte_event}
 use Rattle.events.specs.Gulps.{copies, records_after}
@@ -67,10 +66,10 @@ pub record RecordsWrote (t : Table) (b : Box) (run out records : List ℕ) : Typ
 -- of every gulp that is not refused
 pub record GulpsAreSingle : Type 0 where
   pub of_bytes : (t : Table) (b : Box) (run : List ℕ) (room : ℕ) (g : Gulp) (records : List ℕ) →
-      (called t (bytes run room) b).reply ≡ gulp (Took g) records → BytesAreSingle t b run room g records
+      (called t (bytes run room) b).reply ≡ gulp (Ok g) records → BytesAreSingle t b run room g records
   pub of_ticks : (t : Table) (b : Box) (n : ℕ) (g : Gulp) (records : List ℕ) →
-      (called t (ticks n) b).reply ≡ gulp (Took g) records → TicksAreSingle t b n g records
+      (called t (ticks n) b).reply ≡ gulp (Ok g) records → TicksAreSingle t b n g records
   -- a later byte alone is never refused by 25: what is right stays right, so that 25 need be tested once only
   pub right : (pool : List ℕ) (h : Heads) (s : State) (x : ℕ) → ranges_right h s ≡ true → ranges_right h (byte_event pool h s x).state ≡ true
   pub wrote : (t : Table) (b : Box) (run out : List ℕ) (a : Gulp) (records : List ℕ) →
-      (called t (bytes run (length out)) b).reply ≡ gulp (Took a) records → RecordsWrote t b run out records
+      (called t (bytes run (length out)) b).reply ≡ gulp (Ok a) records → RecordsWrote t b run out records

@@ -1,10 +1,9 @@
 -- What a byte, an event and a drain do on every table and state there can be, those that no script has too. "It counts for waits in every case." "An event
 -- is taken only when no process is ready. A drain does one statement of the lowest-numbered ready process". Assumes nothing: these are definitions.
-use Rattle.std.specs.Prelude.{◌≡◌, Bool, true, false, List, [], map, ℕ, length, get_or, take, drop}
+use Rattle.std.specs.Prelude.{◌≡◌, Bool, true, false, List, [], map, ℕ, length, get_or, take, drop, Ok}
 use Rattle.language.specs.declared.Heads.{Heads}
 use Rattle.language.specs.declared.Table.{Table}
 use Rattle.process.specs.declared.State.{State}
-use Rattle.process.specs.declared.Received.TheVariants as received
 use Rattle.process.specs.declared.Copies.{Copies}
 use Rattle.process.specs.Waiting.{byte_taken}
 use Rattle.process.specs.State.{busy}
@@ -25,7 +24,7 @@ with_paused s paused = record { processes = s.processes; reading = s.reading; le
 
 -- a byte that is taken counts for every process, however often it is recorded; and what it does to them is the same under any PAUSE, OMIT and ENCODE
 pub record CountsAlways (pool : List ℕ) (h : Heads) (s : State) (b : ℕ) : Type 0 where
-  pub counts : (c : Copies) → (byte_event pool h s b).answer ≡ received.Took c → (byte_event pool h s b).state.processes ≡ map (byte_taken pool b) s.processes
+  pub counts : (c : Copies) → (byte_event pool h s b).answer ≡ Ok c → (byte_event pool h s b).state.processes ≡ map (byte_taken pool b) s.processes
   pub alike : (g : Heads) (paused : Bool) → ranges_right g s ≡ ranges_right h s
       → (byte_event pool g (with_paused s paused) b).state.processes ≡ (byte_event pool h s b).state.processes
 

@@ -1,11 +1,12 @@
 -- The cases of a byte: which digit it is, and that it is no space or tab. Assumes nothing.
 use Prim.Native.Nat.{ℕ, ◌+◌, ◌-◌, ◌≤◌, ◌<◌}
+use Rattle.std.specs.Prelude.{Some, None}
 use mathlib.Core.Path.{◌≡◌, refl, sym, ◌∙◌}
 use mathlib.Core.Bool.{Bool, true, false, cond}
 use native.Mathlib.Omega.{arith}
-use lib.Dec.{eqb}
-use borrow.Author.Tests.{lt-ltb, le-ltb, ne_eqb, eqb-true}
-use Rattle.reader.specs.Bytes.{digit_of, is_blank}
+use lib.Dec.{eqb, ltb}
+use borrow.Author.Tests.{lt-ltb, le-ltb, ne_eqb, eqb-true, ltb-true, ltb-false}
+use Rattle.reader.specs.Bytes.{digit_of, digit_value, is_blank}
 
 pub digit_low : (b : ℕ) → b < 48 → 16 ≡ digit_of b
 unfolding digit_of
@@ -39,6 +40,31 @@ unfolding digit_of
 digit_high b h =
     simp
     (le-ltb b 48 (omega arith), le-ltb b 58 (omega arith), le-ltb b 65 (omega arith), le-ltb b 71 (omega arith), le-ltb b 97 (omega arith), le-ltb b 103 h)
+
+pub some_digit : (b : ℕ) {d : ℕ} → d < 16 → d ≡ digit_of b → Some d ≡ digit_value b
+unfolding digit_value
+some_digit b h e = simp (← e, lt-ltb _ _ h)
+
+pub no_digit : (b : ℕ) → 16 ≡ digit_of b → None ≡ digit_value b
+unfolding digit_value
+no_digit b e = simp (← e)
+
+-- what is told of a byte
+pub told_digit : (b : ℕ) {d : ℕ} → Some d ≡ digit_value b → (d ≡ digit_of b) × (d < 16)
+unfolding digit_value
+told_digit b {d} e = go (ltb (digit_of b) 16) refl e
+  where
+    go : (t : Bool) → ltb (digit_of b) 16 ≡ t → Some d ≡ cond t (Some (digit_of b)) None → (d ≡ digit_of b) × (d < 16)
+    go true k f = let i : d ≡ digit_of b = cc in (i, rw i (ltb-true _ _ k))
+    go false k f = let z : ◌≡◌ {A = ℕ} 0 1 = cc in absurd (omega arith)
+
+pub told_none : (b : ℕ) → None ≡ digit_value b → 16 ≤ digit_of b
+unfolding digit_value
+told_none b e = go (ltb (digit_of b) 16) refl e
+  where
+    go : (t : Bool) → ltb (digit_of b) 16 ≡ t → None ≡ cond t (Some (digit_of b)) None → 16 ≤ digit_of b
+    go true k f = let z : ◌≡◌ {A = ℕ} 0 1 = cc in absurd (omega arith)
+    go false k f = ltb-false _ _ k
 
 pub digit_is : (d : ℕ) → d < 10 → digit_of (48 + d) ≡ d
 digit_is d h =

@@ -1,5 +1,5 @@
 -- What a byte is, and tests of bytes one by one.
-use Rattle.std.specs.Prelude.{ℕ, ◌-◌, Bool, true, false, cond, ◌&&◌, not, List, [], ◌∷◌, ltb, eqb}
+use Rattle.std.specs.Prelude.{ℕ, ◌-◌, Bool, true, false, cond, ◌&&◌, not, List, [], ◌∷◌, ltb, eqb, Option, Some, None}
 
 -- a byte is below 256
 unfoldable pub is_byte : ℕ → Bool
@@ -22,6 +22,10 @@ digit_of b =
     (cond (ltb b 71) (b - 55)
     (cond (ltb b 97) 16
     (cond (ltb b 103) (b - 87) 16)))))
+
+-- the value of a hex digit, and none for every other byte
+unfoldable pub digit_value : ℕ → Option ℕ
+digit_value b = cond (ltb (digit_of b) 16) (Some (digit_of b)) None
 
 -- every byte, or any other element, passes a test
 abbrev pub all : {A : Type 0} → (A → Bool) → List A → Bool

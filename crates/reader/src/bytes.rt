@@ -1,38 +1,22 @@
 // What a byte is.
 ghost use Rattle.std.specs.Prelude.{◌≡◌};
-ghost use Rattle.reader.specs.Bytes.{digit_of, is_blank};
+ghost use Rattle.reader.specs.Bytes.{digit_value, is_blank};
 
 // Whether a byte is a space or a tab.
 pub fn blank(b: u8) -> bool
     ensures { result ≡ is_blank b }
 {
-    if b == 32 {
-        return true;
-    }
-    b == 9
+    b == b' ' || b == b'\t'
 }
 
-// The value of a hex digit of either case, 16 for every other byte.
-pub fn digit(b: u8) -> u8
-    ensures { result ≡ digit_of b }
+// The value of a hex digit of either case.
+pub fn digit(b: u8) -> Option<u8>
+    ensures { result ≡ digit_value b }
 {
-    if b < 48 {
-        return 16;
+    match b {
+        b'0'..=b'9' => Some(b - b'0'),
+        b'A'..=b'F' => Some(b - b'A' + 10),
+        b'a'..=b'f' => Some(b - b'a' + 10),
+        _ => None,
     }
-    if b < 58 {
-        return b - 48;
-    }
-    if b < 65 {
-        return 16;
-    }
-    if b < 71 {
-        return b - 55;
-    }
-    if b < 97 {
-        return 16;
-    }
-    if b < 103 {
-        return b - 87;
-    }
-    16
 }

@@ -4,17 +4,10 @@
 ghost use Rattle.std.specs.Prelude.{◌+◌, ◌≡◌, leb};
 
 pub mod bytes;
-pub mod widths;
 
-// Whether `need` bytes fit from `at` on into `len`.
+// Whether `need` bytes fit from `at` on into `len`: the sum, which may wrap, is not made.
 pub fn has_room(len: usize, at: usize, need: usize) -> bool
     ensures { result ≡ leb (at + need) len }
 {
-    if len < at {
-        return false;
-    }
-    if len - at < need {
-        return false;
-    }
-    true
+    at <= len && need <= len - at
 }

@@ -12,19 +12,18 @@ use borrow.Author.Tests.{eq-eqb, ne_eqb}
 use Rattle.writer.specs.Put.{decimal, two_digits}
 use Rattle.writer.proofs.Decimals.{decimal_few}
 use Rattle.process.specs.declared.Reading.{Reading}
-use Rattle.record.specs.declared.DateSign.{DateSign}
-use Rattle.record.specs.declared.DateSign.TheVariants.{Of, Nothing}
+use Rattle.std.specs.Prelude.{Option, Some, None}
 use Rattle.record.specs.Logging.{sign_text, written_out}
 use Rattle.record.specs.Inside.Signs.{date_of, plain_sign, date_text, piece, begins_sign}
 
 -- ---- the text of a sign
 
-shown_case : (x n : ℕ) (t : Bool) (s : DateSign) {l : List ℕ} → l ≡ date_text x s → cond t (two_digits n) l ≡ date_text x (cond t (Of n) s)
+shown_case : (x n : ℕ) (t : Bool) (s : Option ℕ) {l : List ℕ} → l ≡ date_text x s → cond t (two_digits n) l ≡ date_text x (cond t (Some n) s)
 unfolding date_text
 shown_case x n true s e = refl
 shown_case x n false s e = e
 
-plain_case : (b : ℕ) (t u : Bool) → cond t (13 ∷ []) (cond u (10 ∷ []) (b ∷ [])) ≡ date_text (cond t 13 (cond u 10 b)) Nothing
+plain_case : (b : ℕ) (t u : Bool) → cond t (13 ∷ []) (cond u (10 ∷ []) (b ∷ [])) ≡ date_text (cond t 13 (cond u 10 b)) None
 unfolding date_text
 plain_case b true u = refl
 plain_case b false true = refl
@@ -50,11 +49,11 @@ module _ (r : Reading) (count b : ℕ) where
       (shown_case x r.hour (eqb b 104) _
       (shown_case x r.minute (eqb b 109) _ (shown_case x r.second (eqb b 115) _ (plain_case b (eqb b 114) (eqb b 110))))))))
 
-  pub sign_unit : (b ≡ 99 → ⊥) → {s : DateSign} {n : ℕ} → s ≡ date_of r b → s ≡ Of n → two_digits n ≡ sign_text r count b
+  pub sign_unit : (b ≡ 99 → ⊥) → {s : Option ℕ} {n : ℕ} → s ≡ date_of r b → s ≡ Some n → two_digits n ≡ sign_text r count b
   unfolding date_text
   sign_unit h e f = sym (sign_shown h ∙ ap (date_text (plain_sign b)) (sym e ∙ f))
 
-  pub sign_plain : (b ≡ 99 → ⊥) → {s : DateSign} {x : ℕ} → s ≡ date_of r b → s ≡ Nothing → x ≡ plain_sign b → x ∷ [] ≡ sign_text r count b
+  pub sign_plain : (b ≡ 99 → ⊥) → {s : Option ℕ} {x : ℕ} → s ≡ date_of r b → s ≡ None → x ≡ plain_sign b → x ∷ [] ≡ sign_text r count b
   unfolding date_text
   sign_plain h {x = x} e f g = ap (λ (y : ℕ). y ∷ []) g ∙ sym (sign_shown h ∙ ap (date_text (plain_sign b)) (sym e ∙ f))
 
@@ -85,6 +84,12 @@ module _ (r : Reading) (count b : ℕ) {signed : Bool} where
   pub piece_one : signed ≡ false → (b ≡ 64 → ⊥) → b ∷ [] ≡ piece r count signed b
   unfolding piece
   piece_one e h = rw (e, ne_eqb b 64 h)
+
+-- no piece is longer than a sign
+pub piece_few : (r : Reading) (count b : ℕ) (signed : Bool) → count < 10 ^ 10 → length (piece r count signed b) ≤ 10
+unfolding piece
+piece_few r count b true h = sign_few r count b h
+piece_few r count b false h = few_case (eqb b 64) [] (b ∷ []) (omega arith) (omega arith)
 
 piece_case : (r : Reading) (count b : ℕ) (l : List ℕ) (t : Bool)
     → cond t (written_out r count l true) (b ∷ written_out r count l false) ≡ cond t [] (b ∷ []) ++ written_out r count l t

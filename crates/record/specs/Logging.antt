@@ -1,9 +1,7 @@
 -- LOG records.
-use Rattle.std.specs.Prelude.{ℕ, ◌+◌, ◌%◌, Bool, true, false, cond, List, [], ◌∷◌, ◌++◌, length, take, eqb, leb}
+use Rattle.std.specs.Prelude.{ℕ, ◌+◌, ◌%◌, Bool, true, false, cond, List, [], ◌∷◌, ◌++◌, length, take, eqb, leb, Option, Some, None}
 use Rattle.std.proofs.lemmas.List.Edits.{sets}
 use Rattle.writer.specs.Put.{decimal, two_digits}
-use Rattle.writer.specs.declared.Put.{Put}
-use Rattle.writer.specs.declared.Put.TheVariants.{Next, NoRoom}
 use Rattle.process.specs.declared.Reading.{Reading}
 
 -- "`@c` shows the count before this record, in decimal with no leading zeros"; "Dates are two digits from the last reading"; `@@ @r
@@ -39,8 +37,8 @@ unfoldable pub next_count : ℕ → ℕ
 next_count n = (n + 1) % 4294967296
 
 -- the record put at the start of a lent buffer: the place after it, or that the buffer has under 127 bytes
-unfoldable pub record_answer : Reading → ℕ → List ℕ → List ℕ → Put
-record_answer r count text d = cond (leb record_limit (length d)) (Next (length (record_of r count text))) NoRoom
+unfoldable pub record_answer : Reading → ℕ → List ℕ → List ℕ → Option ℕ
+record_answer r count text d = cond (leb record_limit (length d)) (Some (length (record_of r count text))) None
 
 -- what the buffer then holds: one that is too small is left as it is
 unfoldable pub record_into : Reading → ℕ → List ℕ → List ℕ → List ℕ

@@ -7,70 +7,83 @@ ghost use Rattle.record.specs.Logging.{record_limit, sign_text, record_answer, r
 ghost use Rattle.record.specs.Inside.Signs.{date_of, plain_sign, piece, begins_sign};
 
 use process::Reading;
-use writer::{Put, put_bytes, put_decimal, put_two_digits};
+use writer::{put_bytes, put_decimal, put_two_digits};
 
 // "A record is cut after 127 bytes."
 pub const RECORD: usize = 127;
 
-// What a sign shows of the last reading: one of its units, or nothing.
-#[derive(Clone, Copy)]
-pub enum DateSign {
-    Of(u8),
-    Nothing,
-}
+// The longest text of a sign: a count has at most ten digits.
+const SIGN: usize = 10;
 
-fn unit_of(r: Reading, b: u8) -> DateSign
+// The unit of a reading that a sign shows.
+#[tactic(auto, unfolding(crate::specs::Inside::Signs::date_of))]
+fn unit_of(r: Reading, b: u8) -> Option<u8>
     ensures { result ≡ date_of r b }
 {
-    if b == 89 {
-        return DateSign::Of(r.year);
+    match b {
+        b'Y' => Some(r.year),
+        b'M' => Some(r.month),
+        b'D' => Some(r.day),
+        b'h' => Some(r.hour),
+        b'm' => Some(r.minute),
+        b's' => Some(r.second),
+        _ => None,
     }
-    if b == 77 {
-        return DateSign::Of(r.month);
-    }
-    if b == 68 {
-        return DateSign::Of(r.day);
-    }
-    if b == 104 {
-        return DateSign::Of(r.hour);
-    }
-    if b == 109 {
-        return DateSign::Of(r.minute);
-    }
-    if b == 115 {
-        return DateSign::Of(r.second);
-    }
-    DateSign::Nothing
 }
 
 // `@r` and `@n`, and `@@`: any other byte stands for itself.
+#[tactic(auto, unfolding(crate::specs::Inside::Signs::plain_sign))]
 fn plain(b: u8) -> u8
     ensures { result ≡ plain_sign b }
 {
-    if b == 114 {
-        return 13;
+    match b {
+        b'r' => b'\r',
+        b'n' => b'\n',
+        _ => b,
     }
-    if b == 110 {
-        return 10;
-    }
-    b
 }
 
-// Writes the text of the sign that b ends.
-fn put_sign(sign: &mut [u8], r: Reading, count: u32, b: u8) -> Put
-    ensures { (result ≡ put_answer (sign_text r count b) sign.old 0)
-        × (sign.new ≡ put_into (sign_text r count b) sign.old 0) }
+#[tactic(auto, unfolding(crate::specs::Inside::Signs::begins_sign))]
+fn begins_sign(signed: bool, b: u8) -> bool
+    ensures { result ≡ begins_sign signed b }
 {
-    if b == 99 {
-        return put_decimal(sign, 0, count);
-    }
-    let unit = unit_of(r, b);
-    match unit {
-        DateSign::Of(n) => put_two_digits(sign, 0, n),
-        DateSign::Nothing => {
-            let one = [plain(b)];
-            put_bytes(sign, 0, &one)
+    !signed && b == b'@'
+}
+
+// What the signs of a record show: the last reading, and the count before the record.
+#[derive(Clone, Copy)]
+struct Shown {
+    reading: Reading,
+    count: u32,
+}
+
+impl Shown {
+    // Writes the text of the sign that b ends.
+    fn put_sign(self, sign: &mut [u8], b: u8) -> Option<usize>
+        ensures { (result ≡ put_answer (sign_text self.reading self.count b) sign.old 0)
+            × (sign.new ≡ put_into (sign_text self.reading self.count b) sign.old 0) }
+    {
+        if b == b'c' {
+            return put_decimal(sign, 0, self.count);
         }
+        match unit_of(self.reading, b) {
+            Some(n) => put_two_digits(sign, 0, n),
+            None => put_bytes(sign, 0, &[plain(b)]),
+        }
+    }
+
+    // Writes what a byte of the text adds to the record; `signed` tells that `@` stands before.
+    fn put_piece(self, dst: &mut [u8], signed: bool, b: u8) -> Option<usize>
+        ensures { (result ≡ put_answer (piece self.reading self.count signed b) dst.old 0)
+            × (dst.new ≡ put_into (piece self.reading self.count signed b) dst.old 0) }
+    {
+        if signed {
+            return self.put_sign(dst, b);
+        }
+        if b == b'@' {
+            return Some(0);
+        }
+        put_bytes(dst, 0, &[b])
     }
 }
 
@@ -80,67 +93,27 @@ fn put_cut(out: &mut [u8], at: usize, bytes: &[u8]) -> usize
     ensures { (result ≡ at + length (take (record_limit - at) bytes.now))
         × (out.new ≡ put_into (take (record_limit - at) bytes.now) out.old at) }
 {
-    let room = RECORD - at;
-    if room < bytes.len() {
-        put_bytes(out, at, &bytes[..room]);
-        return RECORD;
-    }
-    put_bytes(out, at, bytes);
-    at + bytes.len()
-}
-
-// Writes the text of a sign, cut at 127.
-fn write_sign(out: &mut [u8], at: usize, r: Reading, count: u32, b: u8) -> usize
-    requires { (at ≤ record_limit) × (record_limit ≤ length out.old) }
-    ensures { (result ≡ at + length (take (record_limit - at) (sign_text r count b)))
-        × (out.new ≡ put_into (take (record_limit - at) (sign_text r count b)) out.old at) }
-{
-    let mut sign = [0u8; 10];
-    let put = put_sign(&mut sign, r, count, b);
-    match put {
-        Put::Next(n) => put_cut(out, at, &sign[..n]),
-        Put::NoRoom => at,
-    }
-}
-
-// Writes what a byte of the text adds to the record, cut at 127; `signed` tells that `@` stands before.
-fn write_piece(out: &mut [u8], at: usize, r: Reading, count: u32, signed: bool, b: u8) -> usize
-    requires { (at ≤ record_limit) × (record_limit ≤ length out.old) }
-    ensures { (result ≡ at + length (take (record_limit - at) (piece r count signed b)))
-        × (out.new ≡ put_into (take (record_limit - at) (piece r count signed b)) out.old at) }
-{
-    if signed {
-        return write_sign(out, at, r, count, b);
-    }
-    if b == 64 {
-        return at;
-    }
-    let one = [b];
-    put_cut(out, at, &one)
-}
-
-fn begins_sign(signed: bool, b: u8) -> bool
-    ensures { result ≡ begins_sign signed b }
-{
-    if signed { false } else { b == 64 }
+    let n = bytes.len().min(RECORD - at);
+    put_bytes(out, at, &bytes[..n]);
+    at + n
 }
 
 // The record of a LOG text, written into a lent buffer; a buffer under 127 bytes is left as it is.
-pub fn write_record(text: &[u8], r: Reading, count: u32, out: &mut [u8]) -> Put
+pub fn write_record(text: &[u8], r: Reading, count: u32, out: &mut [u8]) -> Option<usize>
     ensures { (result ≡ record_answer r count text.now out.old)
         × (out.new ≡ record_into r count text.now out.old) }
 {
     if out.len() < RECORD {
-        return Put::NoRoom;
+        return None;
     }
-    let mut n = 0usize;
+    let shown = Shown { reading: r, count };
+    let mut piece = [0u8; SIGN];
+    let mut at = 0usize;
     let mut signed = false;
-    let mut i = 0usize;
-    while i < text.len() {
-        let b = text[i];
-        n = write_piece(out, n, r, count, signed, b);
-        signed = begins_sign(signed, b);
-        i += 1;
+    for b in text {
+        let n = shown.put_piece(&mut piece, signed, *b).unwrap();
+        at = put_cut(out, at, &piece[..n]);
+        signed = begins_sign(signed, *b);
     }
-    Put::Next(n)
+    Some(at)
 }

@@ -1,127 +1,82 @@
-// The line that tells an outcome, written into a lent buffer.
-use super::putting::{count, place_after, word};
-use console::parts::{first, rest_from};
-use process::{Gulped, Received, RunRefusal, Taken};
-use reader::widths::wide_byte;
+// The line that tells an outcome.
+use console::parts::first;
+use process::{Gulp, RunRefusal};
 use statement::outcome::Outcome;
-use words::trimmed_end;
-use writer::put_hex;
+use std::fmt;
 
-// What is said of an operation: the place of its name in all the names, a number if it has one, and how many bytes.
+// What is said of an operation: a name, a number if it has one, and how many of the bytes that were lent.
 #[derive(Clone, Copy)]
 pub struct Said {
-    pub place: usize,
-    pub has_number: bool,
-    pub number: u32,
-    pub count: usize,
+    name: &'static str,
+    number: Option<usize>,
+    count: usize,
 }
 
-pub(crate) fn bad_operation() -> Said {
-    plain(176)
-}
-
-fn plain(place: usize) -> Said {
-    bytes(place, 0)
-}
-
-fn bytes(place: usize, count: usize) -> Said {
-    Said {
-        place,
-        has_number: false,
-        number: 0,
-        count,
+impl Said {
+    pub(crate) fn plain(name: &'static str) -> Said {
+        Said::bytes(name, 0)
     }
-}
 
-fn numbered(place: usize, number: u32, count: usize) -> Said {
-    Said {
-        place,
-        has_number: true,
-        number,
-        count,
-    }
-}
-
-fn refused(why: RunRefusal) -> Said {
-    numbered(160, byte_number(why.number()), 0)
-}
-
-pub(crate) fn drained(outcome: Outcome) -> Said {
-    match outcome {
-        Outcome::Quiet => plain(0),
-        Outcome::Sent(length) => bytes(16, length.bytes),
-        Outcome::Recorded(length) => bytes(32, length.bytes),
-        Outcome::Rts(switch) => {
-            if switch.on {
-                return plain(48);
-            }
-            plain(64)
+    pub(crate) fn bytes(name: &'static str, count: usize) -> Said {
+        Said {
+            name,
+            number: None,
+            count,
         }
-        Outcome::Fchange => plain(80),
-        Outcome::Pause => plain(96),
-        Outcome::Resume => plain(112),
-        Outcome::Plain => plain(128),
-        Outcome::Refused(why) => refused(why),
+    }
+
+    pub(crate) fn gulp(gulp: Gulp) -> Said {
+        Said {
+            name: "gulp",
+            number: Some(gulp.taken),
+            count: gulp.recorded,
+        }
+    }
+
+    pub(crate) fn drained(outcome: Outcome) -> Said {
+        match outcome {
+            Outcome::Quiet => Said::plain("quiet"),
+            Outcome::Sent(length) => Said::bytes("sent", length.bytes),
+            Outcome::Recorded(length) => Said::bytes("recorded", length.bytes),
+            Outcome::Rts(switch) => Said::plain(if switch.on { "rts on" } else { "rts off" }),
+            Outcome::Fchange => Said::plain("fchange"),
+            Outcome::Pause => Said::plain("pause"),
+            Outcome::Resume => Said::plain("resume"),
+            Outcome::Plain => Said::plain("plain"),
+            Outcome::Refused(why) => Said::from(why),
+        }
     }
 }
 
-pub(crate) fn taken(answer: Taken) -> Said {
-    match answer {
-        Taken::Took => plain(144),
-        Taken::Refused(why) => refused(why),
+impl From<RunRefusal> for Said {
+    fn from(why: RunRefusal) -> Said {
+        Said {
+            name: "refused",
+            number: Some(usize::from(why.number())),
+            count: 0,
+        }
     }
 }
 
-pub(crate) fn received(answer: Received) -> Said {
-    match answer {
-        Received::Took(c) => bytes(144, wide_byte(c.count)),
-        Received::Refused(why) => refused(why),
+// The line that tells it: its bytes stand in hex behind it, if there are any.
+#[derive(Clone, Copy)]
+pub struct Told<'a> {
+    pub said: Said,
+    pub lent: &'a [u8],
+}
+
+impl fmt::Display for Told<'_> {
+    fn fmt<W: fmt::Write>(&self, f: &mut fmt::Formatter<W>) -> fmt::Result {
+        f.write_str(self.said.name)?;
+        if let Some(number) = self.said.number {
+            write!(f, " {number}")?;
+        }
+        if 0 < self.said.count {
+            f.write_str(" ")?;
+        }
+        for b in first(self.lent, self.said.count) {
+            write!(f, "{b:02X}")?;
+        }
+        Ok(())
     }
-}
-
-// No gulp takes more: as many ticks as are asked for, or fewer bytes than a line has.
-fn narrow(n: usize) -> u32 {
-    if n <= 4294967295 {
-        return n as u32;
-    }
-    u32::MAX
-}
-
-pub(crate) fn gulped(answer: Gulped) -> Said {
-    match answer {
-        Gulped::Took(gulp) => numbered(192, narrow(gulp.taken), gulp.recorded),
-        Gulped::Refused(why) => refused(why),
-    }
-}
-
-// The name at a place: each has 16 bytes, of which the blanks at its end are left out.
-fn put_name(text: &mut [u8], place: usize) -> usize {
-    let names =
-        b"quiet           sent            recorded        rts on          rts off         fchange         pause           resume          plain           took            refused         bad operation   gulp            ";
-    let name = first(rest_from(names, place), 16);
-    word(text, 0, first(name, trimmed_end(name)))
-}
-
-fn byte_number(n: u8) -> u32 {
-    n as u32
-}
-
-fn put_number(text: &mut [u8], at: usize, said: Said) -> usize {
-    if said.has_number {
-        let next = word(text, at, b" ");
-        return count(text, next, said.number);
-    }
-    at
-}
-
-// The name, and after it the number, and the bytes in hex, if there are any.
-pub(crate) fn write(text: &mut [u8], said: Said, bytes: &[u8]) -> usize {
-    let named = put_name(text, said.place);
-    let at = put_number(text, named, said);
-    if 0 < said.count {
-        let next = word(text, at, b" ");
-        let put = put_hex(text, next, first(bytes, said.count));
-        return place_after(put, at);
-    }
-    at
 }

@@ -4,6 +4,7 @@ use mathlib.Core.Path.{◌≡◌, refl}
 use mathlib.Core.Bool.{false}
 use mathlib.Core.List.{List, [], ◌∷◌}
 use lib.ListN.{replicate}
+use Rattle.std.specs.Prelude.{Err}
 use Rattle.language.specs.Table.{zero_table}
 use Rattle.language.specs.Cell as cell
 use Rattle.accepted.specs.Accepted.{table_right}
@@ -13,7 +14,6 @@ use Rattle.process.specs.declared.Wait.TheVariants.{Ready, Over, Ticks}
 use Rattle.process.specs.declared.Process.{Process}
 use Rattle.process.specs.declared.State.{State}
 use Rattle.process.specs.declared.RunRefusal.TheVariants.{BadTable}
-use Rattle.process.specs.declared.Taken.TheVariants.{Refused}
 use Rattle.process.specs.State.{run_refusal_number}
 use Rattle.process.specs.Waiting as waiting
 use Rattle.statement.specs.declared.outcome.Outcome.{Outcome}
@@ -29,7 +29,7 @@ use Rattle.runner.specs.Calls.{Box, start, event, start_call, called}
 
 -- ---- a start on the table of zeros: 25, and the box is handed back as it was
 
-pub zeros_are_refused : (b : Box) → called table_right zero_table start b ≡ record { box = b; reply = event (Refused BadTable) }
+pub zeros_are_refused : (b : Box) → called table_right zero_table start b ≡ record { box = b; reply = event (Err BadTable) }
 unfolding called start_call start_event start_counts
 zeros_are_refused b = rw zeros_unaccepted
 

@@ -1,6 +1,5 @@
 pub mod Lowest
-pub mod Drains
+pub mod Turning
 pub mod Started
 pub mod Written
-pub mod Turning
 pub mod Examples

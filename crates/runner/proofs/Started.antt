@@ -1,25 +1,21 @@
--- Where each process begins at a start, one law for each way the tests go. Assumes nothing.
-use mathlib.Core.Path.{◌≡◌, ap}
-use mathlib.Core.List.{List, ◌∷◌}
-use Prim.Native.Nat.{ℕ, zero, suc, ◌-◌, ◌≤◌, ◌<◌}
-use native.Mathlib.Omega.{arith}
-use lib.ListN.{get_or}
-use borrow.Author.Tests.{lt-ltb, le-ltb}
+-- The processes of a start, one after the other. Assumes nothing.
+use Rattle.std.proofs.Common.{◌≡◌, ℕ, zero, suc, ◌+◌, ◌<◌, List, [], ◌∷◌, length, get_or, refl, ap, ap₂, ◌∙◌, arith}
+use Rattle.std.proofs.Math.ListN.{set}
+use Rattle.std.proofs.lemmas.Grind.{common_steps}
 use Rattle.language.specs.declared.Heads.{Heads}
-use Rattle.runner.specs.Starting.{start_at, started}
+use Rattle.process.specs.declared.Process.{Process}
+use Rattle.runner.specs.Starting.{started, started_from}
 
-pub started_absent : (h : Heads) (i : ℕ) → h.processes ≤ i → started h i ≡ start_at 0 0
-unfolding started
-started_absent h i l = rw (le-ltb i h.processes l)
+pub each_started : (h : Heads) (d : Process) (n i : ℕ) (ps : List Process) → length ps ≡ n → ((k : ℕ) → k < n → get_or ps k d ≡ started h (i + k)) → ps ≡ started_from h i n
+unfolding started_from
+each_started h d zero i [] e f = refl
+each_started h d zero i (p ∷ ps) e f = absurd (omega arith)
+each_started h d (suc n) i [] e f = absurd (omega arith)
+each_started h d (suc n) i (p ∷ ps) e f =
+    ap₂ ◌∷◌ (f 0 (omega arith) ∙ ap (started h) (omega arith))
+    (each_started h d n (i + 1) ps (omega arith) (λ k l. f (suc k) (omega arith) ∙ ap (started h) (omega arith)))
 
-pub started_first : (h : Heads) (i : ℕ) → i < h.processes → i ≡ 0 → started h i ≡ start_at 0 (get_or h.ends 0 0)
-unfolding started
-started_first h i l e = rw (lt-ltb i h.processes l, e)
-
-behind : (l : List ℕ) (i : ℕ) → 0 < i → get_or (0 ∷ l) i 0 ≡ get_or l (i - 1) 0
-behind l zero h = absurd (omega arith)
-behind l (suc i) h = ap (λ (n : ℕ). get_or l n 0) (omega arith)
-
-pub started_next : (h : Heads) (i : ℕ) → i < h.processes → 0 < i → started h i ≡ start_at (get_or h.ends (i - 1) 0) (get_or h.ends i 0)
-unfolding started
-started_next h i l p = rw (lt-ltb i h.processes l, behind h.ends i p)
+-- one place more
+pub started_more : (h : Heads) (d x : Process) (ps : List Process) (i : ℕ) → i < length ps → x ≡ started h i → ((k : ℕ) → k < i → get_or ps k d ≡ started h k)
+    → (k : ℕ) → k < i + 1 → get_or (set ps i x) k d ≡ started h k
+started_more h d x ps i b e f k l = let g = f k in grind (arith, common_steps)

@@ -1,28 +1,24 @@
 -- What a statement writes: the data of a cell of some word lie in the pool, and the buffer has room for what they become. Assumes nothing.
-use Prim.Native.Nat.{ℕ, ◌+◌, ◌-◌, ◌≤◌}
+use Prim.Native.Nat.{ℕ, ◌+◌, ◌≤◌}
 use mathlib.Core.Path.{◌≡◌, refl, sym, ap, ◌∙◌}
 use mathlib.Core.List.{List, [], ◌∷◌}
 use mathlib.Core.Logic.{inl, inr, ⊎_elim}
 use native.Mathlib.Omega.{arith}
-use lib.ListN.{length, get_or, set, take, drop, length-drop}
+use lib.ListN.{length, get_or, set, drop, length-drop}
 use lib.Seq.{sets, set-get_or, length-take-le}
 use types.Run.{OneOf, miss}
 use denote.Enum.Declared.{tag_of}
-use borrow.Author.Tests.{le-leb}
-use Rattle.writer.specs.Put.{put_into}
-use Rattle.writer.specs.declared.Put.{Put}
-use Rattle.writer.specs.declared.Put.TheVariants.{Next, NoRoom}
 use Rattle.language.specs.declared.Span.{Span}
 use Rattle.language.specs.declared.Cell.{Cell}
 use Rattle.language.specs.declared.Cell.TheVariants.{Nothing, Send, Loop, End, WaitTime, WaitData, WaitByte, WaitClock, WaitSignal, Rts, Log, Fchange, Pause, Resume, Nop, Unknown}
 use Rattle.language.specs.contracts.Cell.{the_type}
-use Rattle.language.specs.Limits.{data_limit, send_room, log_room}
+use Rattle.language.specs.Limits.{send_room, log_room}
 use Rattle.language.specs.Cell.{decoded}
 use Rattle.language.specs.Inside.Right.{cell_right}
 use Rattle.language.specs.Table.{data_at}
 use Rattle.language.proofs.Cells.{SpanFits, span_fits, code_decode}
 use Rattle.process.specs.declared.Reading.{Reading}
-use Rattle.record.specs.Logging.{record_of, record_answer, record_into}
+use Rattle.record.specs.Logging.{record_of}
 use Rattle.statement.specs.declared.outcome.Outcome.{Outcome}
 use Rattle.statement.specs.Saying.{outcome_of, counted_by}
 use Rattle.runner.specs.Writing.{writes_for}
@@ -43,34 +39,9 @@ unfolding cell_right
 logged_fits {s = s} h e =
     ⊎_elim (λ u. let z : ◌≡◌ {A = ℕ} 0 1 = cc in absurd (omega arith)) (λ r. span_fits 0 log_room s (sym (ap cell_right e) ∙ r)) h
 
--- ---- what is put into the buffer
-
--- the code's part of the pool is the span's data
-module _ (pool d : List ℕ) (s : Span) {f n : ℕ} (from : f ≡ s.from) (count : n ≡ s.count) where
-  held : take (f + n - f) (drop f pool) ≡ data_at pool s
-  held = let e : f + n - f ≡ s.count = omega arith in rw (e, from)
-
-  pub sent : length pool ≡ data_limit → s.from + s.count ≤ data_limit → s.count ≤ length d → {x : List ℕ}
-      → x ≡ put_into (take (f + n - f) (drop f pool)) d 0 → (n ≡ length (data_at pool s)) × (x ≡ sets d 0 (data_at pool s))
-  unfolding put_into
-  sent all inside room e =
-      let l = length-drop s.from pool in
-      let k : length (data_at pool s) ≡ s.count = length-take-le s.count (drop s.from pool) (omega arith) in
-      let h : 0 + length (data_at pool s) ≤ length d = omega arith in
-      (count ∙ sym k, e ∙ rw (held, le-leb _ _ h))
-
-  module _ (r : Reading) (c : ℕ) (room : 127 ≤ length d) {p : Put} (answer : p ≡ record_answer r c (take (f + n - f) (drop f pool)) d) where
-    recorded : p ≡ Next (length (record_of r c (data_at pool s)))
-    unfolding record_answer
-    recorded = answer ∙ rw (held, le-leb _ _ room)
-
-    pub logged : {k : ℕ} {x : List ℕ} → x ≡ record_into r c (take (f + n - f) (drop f pool)) d → p ≡ Next k
-        → (k ≡ length (record_of r c (data_at pool s))) × (x ≡ sets d 0 (record_of r c (data_at pool s)))
-    unfolding record_into
-    logged {k} e is = let t = recorded in let g : k ≡ length (record_of r c (data_at pool s)) = cc in (g, e ∙ rw (held, le-leb _ _ room))
-
-    pub logged_never : p ≡ NoRoom → ⊥
-    logged_never is = let t = recorded in let z : ◌≡◌ {A = ℕ} 0 1 = cc in omega arith
+-- data that lie in the pool are as many bytes as they say
+pub data_long : (pool : List ℕ) (s : Span) → s.from + s.count ≤ length pool → length (data_at pool s) ≡ s.count
+data_long pool s h = let l = length-drop s.from pool in length-take-le s.count (drop s.from pool) (omega arith)
 
 -- ---- by the cell
 

@@ -3,13 +3,13 @@ use Rattle.std.specs.Prelude.{ℕ, Bool, cond, List, [], ◌∷◌}
 use Rattle.language.specs.declared.Table.{Table}
 use Rattle.process.specs.declared.Reading.{Reading}
 use Rattle.process.specs.declared.State.{State}
-use Rattle.process.specs.declared.Taken.{Taken}
-use Rattle.process.specs.declared.Received.{Received}
-use Rattle.process.specs.declared.Gulped.{Gulped}
+use Rattle.process.specs.Answers.{Taken}
+use Rattle.process.specs.Answers.{Received}
+use Rattle.process.specs.Answers.{Gulped}
 use Rattle.statement.specs.declared.outcome.Outcome.{Outcome}
+use Rattle.process.specs.declared.Copies.{Copies}
+use Rattle.process.specs.declared.Gulp.{Gulp}
 use Rattle.process.specs.declared.Event.{Event}
-use Rattle.process.specs.declared.ByteEvent.{ByteEvent}
-use Rattle.process.specs.declared.GulpEvent.{GulpEvent}
 use Rattle.events.specs.Events.{tick_event, reading_event, level_event}
 use Rattle.events.specs.Receiving.{byte_event}
 use Rattle.events.specs.Gulps.{ticks_event, bytes_event, bytes_records}
@@ -48,15 +48,15 @@ abbrev pub boxed : State → List ℕ → Box
 boxed s counts = record { state = s; counts = counts }
 
 -- an event's answer as a call's
-abbrev pub answered_by : List ℕ → Event → Called
+abbrev pub answered_by : List ℕ → Event (Unit {0}) → Called
 answered_by counts e = record { box = boxed e.state counts; reply = event e.answer }
 
 -- a byte's answer as a call's
-abbrev pub received_by : List ℕ → ByteEvent → Called
+abbrev pub received_by : List ℕ → Event Copies → Called
 received_by counts e = record { box = boxed e.state counts; reply = received e.answer }
 
 -- a gulp's answer as a call's
-abbrev pub gulped_by : List ℕ → GulpEvent → List ℕ → Called
+abbrev pub gulped_by : List ℕ → Event Gulp → List ℕ → Called
 gulped_by counts e records = record { box = boxed e.state counts; reply = gulp e.answer records }
 
 -- `right` tells whether some accepted script has the table

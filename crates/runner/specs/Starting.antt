@@ -37,7 +37,7 @@ abbrev pub no_counts : List ℕ
 no_counts = replicate cell_places 0
 
 -- `right` tells whether some accepted script has the table: "Start is given a state too and hands it back with 25"
-unfoldable pub start_event : Bool → Heads → State → Event
+unfoldable pub start_event : Bool → Heads → State → Event (Unit {0})
 start_event right h s = cond right (took (start_state h)) (refused s BadTable)
 
 -- the lent counts after it: "A refusal alters no state and no lent byte"

@@ -1,29 +1,34 @@
 // The drain: the turn of the lowest-numbered ready process.
-ghost use Rattle.std.specs.Prelude.{◌≡◌, length};
+ghost use Rattle.std.specs.Prelude.{◌≡◌, length, position};
+ghost use Rattle.process.specs.Waiting.{ready};
 ghost use Rattle.runner.specs.Draining.{drained, buffer_after, counts_after};
 ghost use Rattle.runner.specs.Inside.Draining.{idled};
 
 use crate::Drained;
 use crate::starting::Counts;
 use crate::turn::take_turn;
-use language::{Cells, DRAIN, PROCESS_PLACES, Pool};
+use language::{Cells, DRAIN, Pool};
 use process::{RunRefusal, State};
 use statement::outcome::Outcome;
 
 // None is ready: "a quiet drain with a small buffer is 24".
+#[tactic(auto, unfolding(crate::specs::Inside::Draining::idled))]
 fn idle(s: State, room: usize) -> Drained
     ensures { result ≡ idled s room }
 {
-    if room < DRAIN {
-        return Drained {
-            state: s,
-            outcome: Outcome::Refused(RunRefusal::SmallBuffer),
-        };
-    }
-    Drained {
-        state: s,
-        outcome: Outcome::Quiet,
-    }
+    let outcome = if room < DRAIN {
+        Outcome::Refused(RunRefusal::SmallBuffer)
+    } else {
+        Outcome::Quiet
+    };
+    Drained { state: s, outcome }
+}
+
+// The number, from 0, of the first process that is ready.
+fn first_ready(s: &State) -> Option<usize>
+    ensures { result ≡ position ready s.now.processes }
+{
+    s.processes.iter().position(|p| p.is_ready())
 }
 
 // One statement of the lowest-numbered ready process, what it writes put into the lent buffer; or quiet, where none is ready.
@@ -40,20 +45,14 @@ pub fn drain<'a>(
         out.old)
         × (counts.new ≡ counts_after cells.now s counts.old (length out.old)) }
 {
-    // Copied once and altered in place: a copy of a state costs half as much as a statement.
+    // Copied once, before any branch, and altered in place: a copy of a state costs half as much as a statement.
     let mut t = s;
-    for i in 0..PROCESS_PLACES {
-        let p = t.processes[i];
-        if p.is_ready() {
-            let levels = t.levels;
-            let reading = t.reading;
-            let turn = take_turn(p, cells, pool, levels, reading, t.paused, counts, out);
-            let next = turn.process;
-            let outcome = turn.outcome;
-            t.processes[i] = next;
-            t.paused = turn.paused;
-            return Drained { state: t, outcome };
-        }
-    }
-    idle(s, out.len())
+    let Some(i) = first_ready(&t) else {
+        return idle(s, out.len());
+    };
+    let outcome = match take_turn(&mut t, i, cells, pool, counts, out) {
+        Ok(outcome) => outcome,
+        Err(why) => Outcome::Refused(why),
+    };
+    Drained { state: t, outcome }
 }

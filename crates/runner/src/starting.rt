@@ -6,13 +6,9 @@ ghost use Rattle.runner.specs.Starting.{start_at, started, started_from, start_s
 ghost use Rattle.language.specs.Limits.{process_places};
 
 use accepted::is_accepted;
-use language::{
-    CELL_PLACES, Cells, Heads, LETTER_PLACES, LOOP_PLACES, OMIT_PLACES, PROCESS_PLACES, Pool,
-    SIGNALS,
-};
+use language::{CELL_PLACES, Cells, Heads, LOOP_PLACES, PROCESS_PLACES, Pool, SIGNALS};
 use process::waits::awaken;
-use process::{Event, Process, Reading, RunRefusal, State, Taken};
-use reader::widths::wide_byte;
+use process::{Event, Process, Reading, RunRefusal, State};
 
 // How often each LOG statement has recorded, by the place of its cell.
 pub type Counts = [u32; CELL_PLACES];
@@ -23,7 +19,7 @@ fn start_at(first: u16, end: u16) -> Process
 {
     Process {
         place: first,
-        end: end,
+        end,
         depth: 0,
         left: [0; LOOP_PLACES],
         back: [0; LOOP_PLACES],
@@ -32,33 +28,27 @@ fn start_at(first: u16, end: u16) -> Process
 }
 
 // Process i begins after the one before it; one that the table does not have is over.
+#[tactic(auto, unfolding(crate::specs::Starting::started))]
 fn started_at(heads: Heads, i: usize) -> Process
     requires { i < process_places }
     ensures { result ≡ started heads i }
 {
-    let ends = heads.ends;
-    if wide_byte(heads.processes) <= i {
+    if usize::from(heads.processes) <= i {
         return start_at(0, 0);
     }
-    if i == 0 {
-        return start_at(0, ends[0]);
-    }
-    start_at(ends[i - 1], ends[i])
+    let first = if i == 0 { 0 } else { heads.ends[i - 1] };
+    start_at(first, heads.ends[i])
 }
 
 fn all_started(heads: Heads) -> [Process; PROCESS_PLACES]
     ensures { result ≡ started_from heads 0 process_places }
 {
-    [
-        started_at(heads, 0),
-        started_at(heads, 1),
-        started_at(heads, 2),
-        started_at(heads, 3),
-        started_at(heads, 4),
-        started_at(heads, 5),
-        started_at(heads, 6),
-        started_at(heads, 7),
-    ]
+    // Not `array::from_fn`: of a closure that holds the heads its contract tells too little.
+    let mut all = [start_at(0, 0); PROCESS_PLACES];
+    for i in 0..PROCESS_PLACES {
+        all[i] = started_at(heads, i);
+    }
+    all
 }
 
 // "000101000000 (yymmddhhmmss) before any" reading.
@@ -76,6 +66,7 @@ fn no_reading() -> Reading
 }
 
 // The state of a start: "Levels start off", recording is not paused.
+#[tactic(auto, unfolding(crate::specs::Starting::start_state))]
 fn start_state(heads: Heads) -> State
     ensures { result ≡ start_state heads }
 {
@@ -88,20 +79,11 @@ fn start_state(heads: Heads) -> State
 }
 
 /// The state of a box before any start: no process has a statement.
+#[tactic(auto, unfolding(language::specs::Table::zero_table))]
 pub fn idle() -> State
     ensures { result ≡ start_state zero_table.heads }
 {
-    start_state(Heads {
-        processes: 0,
-        ends: [0; PROCESS_PLACES],
-        used: 0,
-        encodes: false,
-        encode: 0,
-        two_stop_bits: false,
-        omits: 0,
-        omit: [0; OMIT_PLACES],
-        extension: [0; LETTER_PLACES],
-    })
+    start_state(Heads::default())
 }
 
 // The counts of all LOG statements, "from 0".
@@ -112,13 +94,14 @@ fn clear(counts: &mut Counts)
 }
 
 /// Starts the script of a table; a table that no accepted script has is refused, and the state handed back.
+#[tactic(auto, unfolding(crate::specs::Starting::start_event, crate::specs::Starting::start_counts))]
 pub fn start<'a>(
     cells: &'a Cells,
     pool: &'a Pool,
     heads: Heads,
     s: State,
     counts: &mut Counts,
-) -> Event
+) -> Event<()>
     ensures { (result ≡ start_event (table_right (table cells.now pool.now heads)) heads s)
         × (counts.new ≡ start_counts (table_right (table cells.now pool.now heads))
         counts.old) }
@@ -127,11 +110,11 @@ pub fn start<'a>(
         clear(counts);
         return Event {
             state: start_state(heads),
-            answer: Taken::Took,
+            answer: Ok(()),
         };
     }
     Event {
         state: s,
-        answer: Taken::Refused(RunRefusal::BadTable),
+        answer: Err(RunRefusal::BadTable),
     }
 }

@@ -6,54 +6,46 @@ ghost use Rattle.record.specs.Logging.{record_limit, record_of};
 ghost use Rattle.statement.specs.Saying.{outcome_of, counted_by};
 ghost use Rattle.runner.specs.Writing.{writes_for};
 ghost use Rattle.runner.specs.Inside.Writing.{OfWord};
-ghost use Rattle.runner.specs.Inside.Turns.{stays, turned, buffer_turned, counts_turned};
-ghost use Rattle.language.specs.Limits.{cell_places, pool_places, drain_least};
+ghost use Rattle.runner.specs.Inside.Turns.{turned, state_turned, buffer_turned, counts_turned};
+ghost use Rattle.language.specs.Limits.{cell_places, pool_places, process_places, drain_least};
+ghost use Rattle.runner.specs.Draining.{nobody};
 
-use language::{CELL_PLACES, Cell, Cells, DRAIN, Pool, SIGNALS, Span};
-use process::{Process, Reading, RunRefusal};
-use reader::widths::wide;
+use crate::starting::Counts;
+use language::{Cell, Cells, DRAIN, Pool, Span};
+use process::{Reading, RunRefusal, State};
 use record::write_record;
 use statement::moving::step;
 use statement::outcome::{Outcome, counted, pauses, said};
-use writer::{Put, put_bytes};
+use writer::put_bytes;
 
-// A process after its turn, whether recording is paused then, and what its statement says.
-#[derive(Clone, Copy)]
-pub struct Turn {
-    pub process: Process,
-    pub paused: bool,
-    pub outcome: Outcome,
+// The data that lie at a place of the pool.
+fn data<'a>(pool: &'a Pool, s: Span) -> &'a [u8]
+    requires { s.from + s.count ≤ pool_places }
+    ensures { result.now ≡ data_at pool.now s }
+{
+    let from = usize::from(s.from);
+    &pool[from..from + usize::from(s.count)]
 }
 
 // Sends data: how many bytes they are.
+#[tactic(auto, using(crate::proofs::Written::data_long), unfolding(writer::specs::Put::put_answer, writer::specs::Put::put_into))]
 fn send(pool: &Pool, s: Span, out: &mut [u8]) -> usize
     requires { (s.from + s.count ≤ pool_places) × (s.count ≤ length out.old) }
     ensures { (result ≡ length (data_at pool.now s))
         × (out.new ≡ sets out.old 0 (data_at pool.now s)) }
 {
-    let bytes: &[u8] = pool;
-    let from = wide(s.from);
-    let count = wide(s.count);
-    let end = from + count;
-    put_bytes(out, 0, &bytes[from..end]);
-    count
+    put_bytes(out, 0, data(pool, s)).unwrap()
 }
 
 // Records a LOG text: how many bytes the record has.
+#[tactic(auto, unfolding(record::specs::Logging::record_answer, record::specs::Logging::record_into))]
 fn log(pool: &Pool, s: Span, r: Reading, count: u32, out: &mut [u8]) -> usize
     requires { (s.from + s.count ≤ pool_places) × (record_limit ≤ length out.old) }
     ensures { (result ≡ length (record_of r count (data_at pool.now s)))
         × (out.new ≡ sets out.old 0 (record_of r count (data_at pool.now s))) }
 {
-    let bytes: &[u8] = pool;
-    let from = wide(s.from);
-    let end = from + wide(s.count);
-    let put = write_record(&bytes[from..end], r, count, out);
-    match put {
-        Put::Next(n) => n,
-        // The buffer has 128 bytes, and no record more than 127.
-        Put::NoRoom => unreachable!(),
-    }
+    // The buffer has 128 bytes, and no record more than 127.
+    write_record(data(pool, s), r, count, out).unwrap()
 }
 
 // Does what a cell's statement does besides moving its process on. "Each LOG statement has its own `@c`": by the place of its cell.
@@ -62,7 +54,7 @@ fn perform(
     pool: &Pool,
     r: Reading,
     at: usize,
-    counts: &mut [u32; CELL_PLACES],
+    counts: &mut Counts,
     out: &mut [u8],
 ) -> Outcome
     requires { (OfWord cell) × (at < cell_places) × (drain_least ≤ length out.old) }
@@ -84,51 +76,38 @@ fn perform(
     }
 }
 
-// "A refusal alters no state".
-fn refuse(p: Process, paused: bool, why: RunRefusal) -> Turn
-    ensures { result ≡ stays p paused why }
-{
-    Turn {
-        process: p,
-        paused: paused,
-        outcome: Outcome::Refused(why),
-    }
-}
-
-// One statement of a process that is ready; or 25, then 24, with everything as it was.
+// One statement of process i of the state, which is ready; or 25, then 24, with everything as it was.
+#[tactic(auto, unfolding(crate::specs::Inside::Turns::turned, crate::specs::Inside::Turns::state_turned, crate::specs::Inside::Turns::buffer_turned, crate::specs::Inside::Turns::counts_turned))]
 pub(crate) fn take_turn<'a>(
-    p: Process,
+    s: &mut State,
+    i: usize,
     cells: &'a Cells,
     pool: &'a Pool,
-    levels: [bool; SIGNALS],
-    reading: Reading,
-    paused: bool,
-    counts: &mut [u32; CELL_PLACES],
+    counts: &mut Counts,
     out: &mut [u8],
-) -> Turn
-    ensures { (result ≡ turned cells.now pool.now levels reading paused counts.old
-        p (length out.old))
-        × (out.new ≡ buffer_turned cells.now pool.now levels reading
-        counts.old p out.old)
-        × (counts.new ≡ counts_turned cells.now levels counts.old p
-        (length out.old)) }
+) -> Result<Outcome, RunRefusal>
+    requires { i < process_places }
+    ensures { (result ≡ turned cells.now pool.now s.old counts.old
+        (get_or s.old.processes i nobody) (length out.old))
+        × (s.new ≡ state_turned cells.now s.old i
+        (get_or s.old.processes i nobody) (length out.old))
+        × (out.new ≡ buffer_turned cells.now pool.now s.old counts.old
+        (get_or s.old.processes i nobody) out.old)
+        × (counts.new ≡ counts_turned cells.now s.old counts.old
+        (get_or s.old.processes i nobody) (length out.old)) }
 {
-    let stepped = step(p, cells, levels);
-    let m = stepped.moved;
-    if m.found {
-        if out.len() < DRAIN {
-            return refuse(p, paused, RunRefusal::SmallBuffer);
-        }
-        let at = wide(p.place);
-        let cell = stepped.cell;
-        let outcome = perform(cell, pool, reading, at, counts, out);
-        let process = m.process;
-        let paused = pauses(cell, paused);
-        return Turn {
-            process,
-            paused,
-            outcome,
-        };
+    let p = s.processes[i];
+    let stepped = step(p, cells, s.levels);
+    let Some(process) = stepped.moved else {
+        return Err(RunRefusal::BadTable);
+    };
+    if out.len() < DRAIN {
+        return Err(RunRefusal::SmallBuffer);
     }
-    refuse(p, paused, RunRefusal::BadTable)
+    let cell = stepped.cell;
+    let at = usize::from(p.place);
+    let outcome = perform(cell, pool, s.reading, at, counts, out);
+    s.processes[i] = process;
+    s.paused = pauses(cell, s.paused);
+    Ok(outcome)
 }

@@ -3,14 +3,13 @@ use mathlib.Core.Path.{◌≡◌, refl, sym, ap, ap₂, ◌∙◌}
 use mathlib.Core.List.{List, [], ◌∷◌}
 use Prim.Native.Nat.{ℕ}
 use native.Mathlib.Omega.{arith}
+use Rattle.std.specs.Prelude.{Ok, Err}
 use Rattle.language.specs.declared.Table.{Table}
 use Rattle.language.specs.Script.{Script}
 use Rattle.language.specs.Table.{script_of}
-use Rattle.language.specs.declared.Answer.{Answer}
-use Rattle.language.specs.declared.Answer.TheVariants as answer
 use Rattle.language.specs.declared.Compiled.{Compiled}
 use Rattle.language.specs.Draft.{Result, accepted, refused}
-use Rattle.language.specs.Answer.{answered, script_from, compiled}
+use Rattle.language.specs.Answer.{CompilerAnswer, refusal_of, answered, script_from, compiled}
 use Rattle.accepted.specs.Accepted.{table_right}
 use Rattle.runner.specs.Starting.{start_event}
 use Rattle.runner.specs.Calls as calls
@@ -65,7 +64,7 @@ said_by : (r : Result) {text : List ℕ} {t : Table} {k : ℕ} → Compiles text
 unfolding compiled script_from answered
 said_by (accepted s) c e = ap accepted (sym (bears c s e).script)
 said_by (refused f row column) {k = k} c e =
-    let z : ◌≡◌ {A = Answer} (answer.Refused f row column) (answer.Accepted k) = ap (λ (x : Compiled). x.answer) (sym (ap answered e) ∙ c.result) in
+    let z : ◌≡◌ {A = CompilerAnswer} (Err (refusal_of f row column)) (Ok k) = ap (λ (x : Compiled). x.answer) (sym (ap answered e) ∙ c.result) in
     let y : ◌≡◌ {A = ℕ} 0 1 = cc in
     absurd (omega arith)
 

@@ -21,7 +21,7 @@ use Rattle.process.specs.declared.Process.{Process}
 use Rattle.process.specs.declared.State.{State}
 use Rattle.process.specs.declared.RunRefusal.TheVariants.{SmallBuffer}
 use Rattle.process.specs.Waiting.{ready_wait, ready}
-use Rattle.statement.specs.declared.loops.Moved.{Moved}
+use Rattle.statement.specs.Ways.{Moved}
 use Rattle.statement.specs.Moving.{moved_by, moved, cell_at}
 use Rattle.statement.specs.declared.outcome.Outcome.TheVariants.{Quiet, Refused}
 use Rattle.statement.specs.Saying.{outcome_of, paused_by, counted_by}

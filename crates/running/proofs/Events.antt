@@ -6,13 +6,12 @@ use native.Mathlib.Omega.{arith}
 use lib.ListN.{length, length-map}
 use lib.Dec.{ltb}
 use borrow.Author.Tests.{ltb-false}
+use Rattle.std.specs.Prelude.{Ok, Err}
 use Rattle.reader.proofs.Tests.{true_is_false, by_cases}
 use Rattle.language.specs.Script.{Script}
 use Rattle.process.specs.declared.Copies.{Copies}
 use Rattle.process.specs.declared.RunRefusal.{RunRefusal}
 use Rattle.process.specs.declared.RunRefusal.TheVariants.{Busy, BadReading, NoSuchSignal}
-use Rattle.process.specs.declared.Taken.TheVariants as taken
-use Rattle.process.specs.declared.Received.TheVariants as received
 use Rattle.events.specs.Events.{reading_right}
 use Rattle.events.specs.Gulps.{Gulping}
 use Rattle.runner.specs.Calls as calls
@@ -35,19 +34,19 @@ module _ (b : Box) (q : Call) where
   abbrev Acts : Reply → Box → Type 0
   Acts r c = c.processes ≡ map (waiting (since (singles q r))) b.processes
 
-  taken_fair : (c : Box) → busy b ≡ false → Acts (event taken.Took) c → Fair (takes_event c)
+  taken_fair : (c : Box) → busy b ≡ false → Acts (event (Ok tt)) c → Fair (takes_event c)
   unfolding was_taken
   taken_fair c n e = record { only = λ u. n; unaltered = λ u. true_is_false u; acts = λ u. e }
 
   unless_busy : (r : Called) → (busy b ≡ false → Fair r) → Fair (cond (busy b) (refuses b Busy) r)
   unless_busy r f = by_cases Fair (busy b) (refuses b Busy) r (λ u. refused_fair Busy) f
 
-  byte_fair : (c : Box) (n : Copies) → Acts (calls.received (received.Took n)) c →
-      Fair (record { box = cond (busy b) b c; reply = calls.received (cond (busy b) (received.Refused Busy) (received.Took n)) })
+  byte_fair : (c : Box) (n : Copies) → Acts (calls.received (Ok n)) c →
+      Fair (record { box = cond (busy b) b c; reply = calls.received (cond (busy b) (Err Busy) (Ok n)) })
   unfolding was_taken
   byte_fair c n e = go (busy b) refl
     where
-      go : (u : Bool) → busy b ≡ u → Fair (record { box = cond u b c; reply = calls.received (cond u (received.Refused Busy) (received.Took n)) })
+      go : (u : Bool) → busy b ≡ u → Fair (record { box = cond u b c; reply = calls.received (cond u (Err Busy) (Ok n)) })
       go true i = record { only = λ v. true_is_false (sym v); unaltered = λ v. refl; acts = λ v. true_is_false (sym v) }
       go false i = record { only = λ v. i; unaltered = λ v. true_is_false v; acts = λ v. e }
 

@@ -7,6 +7,7 @@ use native.Mathlib.Omega.{arith}
 use lib.Dec.{ltb, leb, eqb}
 use lib.ListN.{length, set, take, length-replicate}
 use borrow.Author.Tests.{le-leb}
+use Rattle.std.specs.Prelude.{Ok, Err}
 use Rattle.reader.proofs.Tests.{both}
 use Rattle.language.specs.declared.Heads.{Heads}
 use Rattle.language.specs.declared.Table.{Table}
@@ -21,7 +22,6 @@ use Rattle.process.specs.declared.Reading.{Reading}
 use Rattle.process.specs.declared.State.{State}
 use Rattle.process.specs.declared.RunRefusal.{RunRefusal}
 use Rattle.process.specs.declared.RunRefusal.TheVariants.{Busy, BadReading, NoSuchSignal}
-use Rattle.process.specs.declared.Received.TheVariants as received
 use Rattle.process.specs.declared.Event.{Event}
 use Rattle.process.specs.Waiting.{ticked, ticked_wait, byte_taken, byte_wait, reading_taken, reading_wait, level_taken, level_wait}
 use Rattle.events.specs.Events as events
@@ -99,12 +99,12 @@ module _ (t : Table) (s : Script) (k : ℕ) (a : Bears t s k) (b : Box) (qs : Li
   takes : (e : State) (rs : List script.Process) → Alikes t b.counts 0 e.processes rs → Answers t (answered_by b.counts (took e)) (script.takes_event (box_of e rs))
   takes e rs z = record { reply = refl; after = rs; box = refl; alike = z; long = w.long }
 
-  by_test : (u : Bool) (e g : Event) (x y : script.Called) → Answers t (answered_by b.counts e) x → Answers t (answered_by b.counts g) y →
+  by_test : (u : Bool) (e g : Event (Unit {0})) (x y : script.Called) → Answers t (answered_by b.counts e) x → Answers t (answered_by b.counts g) y →
       Answers t (answered_by b.counts (cond u e g)) (cond u x y)
   by_test true e g x y p q = p
   by_test false e g x y p q = q
 
-  unless_busy : (e : Event) (x : script.Called) → Answers t (answered_by b.counts e) x →
+  unless_busy : (e : Event (Unit {0})) (x : script.Called) → Answers t (answered_by b.counts e) x →
       Answers t (answered_by b.counts (cond (busy b.state) (events.refused b.state Busy) e)) (cond (script.busy bx) (script.refuses bx Busy) x)
   unless_busy e x p = rw busy_same (by_test (script.busy bx) (events.refused b.state Busy) e (script.refuses bx Busy) x (stays Busy) p)
 
@@ -145,10 +145,10 @@ module _ (t : Table) (s : Script) (k : ℕ) (a : Bears t s k) (b : Box) (qs : Li
   unfolding calls.called script.called byte_event
   byte_answers x = rw (ranges_right_lem, busy_same) (go (script.busy bx))
     where
-      took_byte_lem : Answers t (received_by b.counts (answered_with (with_processes b.state (map (byte_taken t.pool x) b.state.processes)) (received.Took (record { count = times_recorded t.heads b.state.paused x }))))
-          (record { box = script.having (script.all_waiting (script.gets x) bx) bx; reply = calls.received (received.Took (record { count = script.times_recorded s.settings b.state.paused x })) })
+      took_byte_lem : Answers t (received_by b.counts (answered_with (with_processes b.state (map (byte_taken t.pool x) b.state.processes)) (Ok (record { count = times_recorded t.heads b.state.paused x }))))
+          (record { box = script.having (script.all_waiting (script.gets x) bx) bx; reply = calls.received (Ok (record { count = script.times_recorded s.settings b.state.paused x })) })
       took_byte_lem = record {
-        reply = ap (λ (n : ℕ). calls.received (received.Took (record { count = n }))) (recorded_same t.heads b.state.paused x ∙ ap (λ (g : Settings). script.times_recorded g b.state.paused x) settings_same);
+        reply = ap (λ (n : ℕ). calls.received (Ok (record { count = n }))) (recorded_same t.heads b.state.paused x ∙ ap (λ (g : Settings). script.times_recorded g b.state.paused x) settings_same);
         after = map (script.waiting (script.gets x)) qs;
         box = refl;
         alike = event_alike t b.counts (byte_wait t.pool x) (script.gets x) (λ i e. refl)
@@ -157,11 +157,11 @@ module _ (t : Table) (s : Script) (k : ℕ) (a : Bears t s k) (b : Box) (qs : Li
       }
 
       go : (u : Bool) → Answers t
-          (received_by b.counts (cond u (answered_with b.state (received.Refused Busy))
-          (answered_with (with_processes b.state (map (byte_taken t.pool x) b.state.processes)) (received.Took (record { count = times_recorded t.heads b.state.paused x })))))
+          (received_by b.counts (cond u (answered_with b.state (Err Busy))
+          (answered_with (with_processes b.state (map (byte_taken t.pool x) b.state.processes)) (Ok (record { count = times_recorded t.heads b.state.paused x })))))
           (record {
             box = cond u bx (script.having (script.all_waiting (script.gets x) bx) bx);
-            reply = calls.received (cond u (received.Refused Busy) (received.Took (record { count = script.times_recorded s.settings b.state.paused x })));
+            reply = calls.received (cond u (Err Busy) (Ok (record { count = script.times_recorded s.settings b.state.paused x })));
           })
       go true = record { reply = refl; after = qs; box = refl; alike = w.alike; long = w.long }
       go false = took_byte_lem

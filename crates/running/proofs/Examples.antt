@@ -3,13 +3,13 @@ use mathlib.Core.Path.{◌≡◌, refl}
 use mathlib.Core.List.{List, [], ◌∷◌, ◌++◌}
 use Prim.Native.Nat.{ℕ}
 use Prim.Native.String.{String}
+use Rattle.std.specs.Prelude.{Ok}
 use Rattle.reader.specs.Ascii.{ascii}
 use Rattle.language.specs.Script.{Statement, wait_time, wait_data, nop}
 use Rattle.language.specs.Draft.{Result, accepted, refused}
 use Rattle.language.specs.Answer.{script_from}
 use Rattle.running.specs.Joined as joined
 use Rattle.language.proofs.Opened.{printed}
-use Rattle.process.specs.declared.Taken.TheVariants as taken
 use Rattle.events.specs.Recording as recording
 use Rattle.record.specs.Logging as logging
 use Rattle.runner.specs.Calls.{Call, tick, byte, drain, Reply, event}
@@ -70,11 +70,11 @@ operations =
 -- its outcomes: the west meter's reply never ends the wait for the east one's, and half a match loses nothing
 outcomes : List Reply
 outcomes =
-    event taken.Took ∷ plain ∷ sent (ascii "ASK 1") ∷ sent (13 ∷ []) ∷ plain ∷ quiet
+    event (Ok tt) ∷ plain ∷ sent (ascii "ASK 1") ∷ sent (13 ∷ []) ∷ plain ∷ quiet
     ∷ tooks (ascii "NORTH-W") (quiet ∷ tooks (ascii "NORNORTH") (quiet ∷ tooks (ascii "-E")
     (recorded (ascii "north east 0 00:00:00" ++ (13 ∷ 10 ∷ [])) ∷ sent (ascii "ASK 2") ∷ sent (13 ∷ []) ∷ plain ∷ quiet
     ∷ tooks (ascii "NORTH-E") (quiet ∷ tooks (ascii "NORTH-") (quiet ∷ tooks (ascii "W")
-    (recorded (ascii "north west 0 00:00:00" ++ (13 ∷ 10 ∷ [])) ∷ plain ∷ quiet ∷ event taken.Took ∷ quiet ∷ []))))))
+    (recorded (ascii "north west 0 00:00:00" ++ (13 ∷ 10 ∷ [])) ∷ plain ∷ quiet ∷ event (Ok tt) ∷ quiet ∷ []))))))
 
 norths : (b : Box) → replies_of (script_from text) b operations ≡ outcomes
 unfolding text operations outcomes script_from printed joined.joined_in joined.join_to joined.join_two joined.awaits joined.done started called replies busy does turn takes later drained next_in next_by is_statement closed logged logging.sign_text logging.written_out logging.record_of logging.next_count ends_in gets times_recorded times_by recording.one_of ticked unless_zero

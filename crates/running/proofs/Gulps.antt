@@ -5,11 +5,10 @@ use mathlib.Core.List.{List, [], ◌∷◌, ◌++◌, map, map-map, map-id}
 use Prim.Native.Nat.{ℕ}
 use native.Mathlib.Omega.{arith}
 use lib.ListN.{length, take, replicate}
+use Rattle.std.specs.Prelude.{Ok, Err}
 use Rattle.language.specs.Script.{Script}
 use Rattle.process.specs.declared.Copies.{Copies}
 use Rattle.process.specs.declared.RunRefusal.TheVariants.{Busy}
-use Rattle.process.specs.declared.Received.TheVariants.{Took}
-use Rattle.process.specs.declared.Gulped.TheVariants as gulped
 use Rattle.events.specs.Gulps.{Gulping, stop, more, ticks_from, bytes_from}
 use Rattle.runner.specs.Calls.{Call, tick, byte, gulp}
 use Rattle.events.proofs.Gulping.{ticks_by, bytes_by}
@@ -19,10 +18,10 @@ use Rattle.running.specs.Called.{records_of}
 
 -- the two ways in which a gulp is answered: 21, and what came of it
 abbrev pub refuses_gulp : Box → Called
-refuses_gulp b = record { box = b; reply = gulp (gulped.Refused Busy) [] }
+refuses_gulp b = record { box = b; reply = gulp (Err Busy) [] }
 
 abbrev pub takes_gulp : Gulping Box → Called
-takes_gulp g = record { box = g.box; reply = gulp (gulped.Took (record { taken = g.taken; recorded = length g.records })) g.records }
+takes_gulp g = record { box = g.box; reply = gulp (Ok (record { taken = g.taken; recorded = length g.records })) g.records }
 
 -- what came of a box is what these single events make of it
 pub record Gulped (b : Box) (es : List Call) (g : Gulping Box) : Type 0 where
@@ -64,7 +63,7 @@ module _ (s : Script) where
       (λ b x xs room c g i l e h. stepped b (byte x) (replicate c.count x) (map byte (take g.taken xs)) g (rw i at h))
 
   -- how often one was recorded, by its answer
-  count_is : (b : Box) (x : ℕ) (c : Copies) → busy b ≡ false → byte_answer s x b ≡ Took c → c.count ≡ times_recorded s.settings b.paused x
+  count_is : (b : Box) (x : ℕ) (c : Copies) → busy b ≡ false → byte_answer s x b ≡ Ok c → c.count ≡ times_recorded s.settings b.paused x
   count_is b x c i e = let d = rw i at e in cc
 
   -- "records equal those of single events"

@@ -4,17 +4,17 @@ use mathlib.Core.Bool.{Bool, true, false, cond}
 use mathlib.Core.List.{List, []}
 use Prim.Native.Nat.{ℕ}
 use lib.ListN.{length}
+use Rattle.std.specs.Prelude.{Ok}
 use Rattle.reader.proofs.Tests.{by_cases}
 use Rattle.language.specs.declared.Table.{Table}
 use Rattle.language.specs.Script.{Script}
 use Rattle.accepted.specs.Accepted.{table_right}
 use Rattle.process.specs.declared.State.{State}
 use Rattle.process.specs.declared.RunRefusal.TheVariants.{Busy}
-use Rattle.process.specs.declared.Gulped.TheVariants as gulped
 use Rattle.process.specs.State.{busy}
-use Rattle.events.specs.Events.{tick_event}
+use Rattle.events.specs.Events.{refused, tick_event}
 use Rattle.events.specs.Receiving.{byte_event}
-use Rattle.events.specs.Gulps.{Gulping, ticks_gulp, bytes_gulp, gulp_refused, gulp_took, ticks_event, bytes_event, bytes_records}
+use Rattle.events.specs.Gulps.{Gulping, ticks_gulp, bytes_gulp, gulp_took, ticks_event, bytes_event, bytes_records}
 use Rattle.events.proofs.Gulps.{Alike, ticks_alike, bytes_alike}
 use Rattle.runner.specs.Calls as calls
 use Rattle.runner.specs.Calls.{Box, tick, byte, ticks, bytes, gulp, boxed, gulped_by}
@@ -93,7 +93,7 @@ module _ (t : Table) (s : Script) (k : ℕ) (a : Bears t s k) (b : Box) (qs : Li
 
   gulp_takes : (e : Gulping State) (g : Gulping script.Box) → Gulps e g → Answers t (gulped_by b.counts (gulp_took e) e.records) (takes_gulp g)
   gulp_takes e g x = record {
-    reply = ap₂ (λ (n : ℕ) (l : List ℕ). gulp (gulped.Took (record { taken = n; recorded = length l })) l) x.taken x.records;
+    reply = ap₂ (λ (n : ℕ) (l : List ℕ). gulp (Ok (record { taken = n; recorded = length l })) l) x.taken x.records;
     after = x.box.processes;
     box = x.box.box;
     alike = x.box.in_step.alike;
@@ -102,11 +102,11 @@ module _ (t : Table) (s : Script) (k : ℕ) (a : Bears t s k) (b : Box) (qs : Li
 
   -- 21, or what came of the single events
   gulp_answers : (e : Gulping State) (g : Gulping script.Box) → (busy b.state ≡ false → Gulps e g) →
-      Answers t (gulped_by b.counts (cond (busy b.state) (gulp_refused b.state Busy) (gulp_took e)) (cond (busy b.state) [] e.records)) (script.gulps bx g)
+      Answers t (gulped_by b.counts (cond (busy b.state) (refused b.state Busy) (gulp_took e)) (cond (busy b.state) [] e.records)) (script.gulps bx g)
   gulp_answers e g x = rw (← busy_same t s k a b qs f w) (go (busy b.state) refl)
     where
       go : (u : Bool) → busy b.state ≡ u →
-          Answers t (gulped_by b.counts (cond u (gulp_refused b.state Busy) (gulp_took e)) (cond u [] e.records)) (cond u (refuses_gulp bx) (takes_gulp g))
+          Answers t (gulped_by b.counts (cond u (refused b.state Busy) (gulp_took e)) (cond u [] e.records)) (cond u (refuses_gulp bx) (takes_gulp g))
       go true i = record { reply = refl; after = qs; box = refl; alike = w.alike; long = w.long }
       go false i = gulp_takes e g (x i)
 

@@ -6,6 +6,7 @@ use mathlib.Core.List.{List, [], ◌∷◌, map}
 use Prim.Native.Nat.{ℕ}
 use native.Mathlib.Omega.{arith}
 use lib.ListN.{get_or}
+use Rattle.std.specs.Prelude.{Ok}
 use Rattle.reader.specs.Ascii.{ascii}
 use Rattle.language.specs.declared.Table.{Table}
 use Rattle.language.specs.Right.{is_byte, time_right}
@@ -15,7 +16,6 @@ use Rattle.language.specs.Table as table
 use Rattle.language.specs.Table.{script_of, settings_of}
 use Rattle.language.specs.Answer.{answered, compiled}
 use Rattle.language.proofs.Opened.{printed}
-use Rattle.process.specs.declared.Received.TheVariants.{Took}
 use Rattle.events.specs.Recording as recording
 use Rattle.record.specs.Logging as logging
 use Rattle.runner.specs.Calls.{Box, Call, start, tick, byte, received}
@@ -90,7 +90,7 @@ record Computed (t : Table) (fs : List Fed) (copies : ℕ) : Type 0 where
   quiet : (y : script.Box) → quietly (of_script (script_of t)) y fs ≡ true
   taken : (y : script.Box) → accepted (of_script (script_of t)) y fs ≡ true
   says : (y : script.Box) → map (tabled (get_or (processes (script_of t).body) 1 [])) (parts (of_script (script_of t)) 1 y fs) ≡ told
-  recorded : (y : script.Box) → (script.called (script_of t) (byte 65) (fed_with (of_script (script_of t)) (get_or fs 0 (fed start [])) y)).reply ≡ received (Took (record { count = copies }))
+  recorded : (y : script.Box) → (script.called (script_of t) (byte 65) (fed_with (of_script (script_of t)) (get_or fs 0 (fed start [])) y)).reply ≡ received (Ok (record { count = copies }))
 
 -- paused in the one, and not in the other: that is no part of what is equal
 computed : Computed one one_run 0 × Computed other other_run 1

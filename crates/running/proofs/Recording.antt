@@ -5,14 +5,13 @@ use mathlib.Core.List.{List, [], ◌∷◌}
 use Prim.Native.Nat.{ℕ}
 use lib.Dec.{ltb}
 use lib.ListN.{take}
+use Rattle.std.specs.Prelude.{Ok, Err}
 use Rattle.reader.proofs.Tests.{true_is_false, by_cases}
 use Rattle.language.specs.Script.{Script}
 use Rattle.process.specs.declared.Copies.{Copies}
 use Rattle.process.specs.declared.RunRefusal.TheVariants.{Busy, SmallBuffer}
-use Rattle.process.specs.declared.Received.{Received}
-use Rattle.process.specs.declared.Received.TheVariants as received
+use Rattle.process.specs.Answers.{Received}
 use Rattle.process.specs.declared.Gulp.{Gulp}
-use Rattle.process.specs.declared.Gulped.TheVariants as gulped
 use Rattle.events.specs.Events.{reading_right}
 use Rattle.statement.specs.declared.outcome.Outcome.TheVariants.{Refused}
 use Rattle.runner.specs.Calls as calls
@@ -60,20 +59,20 @@ module _ (s : Script) (b : Box) where
       by_cases (λ (r : Called). r.box.paused ≡ paused_after (drain room) r.reply b.paused) (ltb 127 room) _ (record { box = b; reply = outcome (Refused SmallBuffer) [] })
       (λ u. drain_pauses (turn b b.processes) (turn_pauses b b.processes)) (λ u. refl)
 
-  copied_once : (x : ℕ) (c : Copies) → (called s (byte x) b).reply ≡ calls.received (received.Took c) → c.count ≡ times_recorded s.settings b.paused x
+  copied_once : (x : ℕ) (c : Copies) → (called s (byte x) b).reply ≡ calls.received (Ok c) → c.count ≡ times_recorded s.settings b.paused x
   unfolding called
   copied_once x c = go (busy b)
     where
-      go : (u : Bool) → calls.received (cond {A = Received} u (received.Refused Busy) (received.Took (record { count = times_recorded s.settings b.paused x })))
-          ≡ calls.received (received.Took c) → c.count ≡ times_recorded s.settings b.paused x
+      go : (u : Bool) → calls.received (cond {A = Received} u (Err Busy) (Ok (record { count = times_recorded s.settings b.paused x })))
+          ≡ calls.received (Ok c) → c.count ≡ times_recorded s.settings b.paused x
       go true e = true_is_false (cc)
       go false e = cc
 
-  gulped_once : (run : List ℕ) (room : ℕ) (g : Gulp) (bs : List ℕ) → (called s (bytes run room) b).reply ≡ gulp (gulped.Took g) bs → bs ≡ records_of s b.paused (take g.taken run)
+  gulped_once : (run : List ℕ) (room : ℕ) (g : Gulp) (bs : List ℕ) → (called s (bytes run room) b).reply ≡ gulp (Ok g) bs → bs ≡ records_of s b.paused (take g.taken run)
   unfolding called
   gulped_once run room g bs = go (busy b) refl
     where
-      go : (u : Bool) → busy b ≡ u → (cond u (refuses_gulp b) (takes_gulp (came s b run room))).reply ≡ gulp (gulped.Took g) bs →
+      go : (u : Bool) → busy b ≡ u → (cond u (refuses_gulp b) (takes_gulp (came s b run room))).reply ≡ gulp (Ok g) bs →
           bs ≡ records_of s b.paused (take g.taken run)
       go true i e = true_is_false (cc)
       go false i e =

@@ -1,10 +1,8 @@
 -- What a call on a script's box comes to: events, drains, recording and the counts of LOG, over whole runs. Document 01, "Running". Assumes nothing:
 -- these are definitions.
-use Rattle.std.specs.Prelude.{◌≡◌, Bool, true, false, cond, ◌&&◌, List, [], ◌∷◌, ◌++◌, map, ℕ, zero, suc, ◌+◌, ◌%◌, ◌≤◌, ◌<◌, length, get_or, take, replicate, eqb}
+use Rattle.std.specs.Prelude.{◌≡◌, Bool, true, false, cond, ◌&&◌, List, [], ◌∷◌, ◌++◌, map, ℕ, zero, suc, ◌+◌, ◌%◌, ◌≤◌, ◌<◌, length, get_or, take, replicate, eqb, Ok}
 use Rattle.language.specs.Script.{Statement, send, loop, end, wait_time, wait_data, wait_byte, wait_clock, wait_signal, rts, log, fchange, pause, resume, nop, Script}
-use Rattle.process.specs.declared.Received.TheVariants as received
 use Rattle.process.specs.declared.Gulp.{Gulp}
-use Rattle.process.specs.declared.Gulped.TheVariants as gulped
 use Rattle.process.specs.declared.Copies.{Copies}
 use Rattle.process.specs.State.{any}
 use Rattle.statement.specs.declared.outcome.Outcome.{Outcome}
@@ -163,9 +161,9 @@ records_of s paused (x ∷ xs) = replicate (times_recorded s.settings paused x) 
 -- after any calls: paused exactly as the outcomes up to now said, and a byte that is taken is recorded as often as document 01 says, one of a gulp too
 pub record RecordedRight (s : Script) (b : Box) (qs : List Call) : Type 0 where
   pub paused : (box_after s b qs).paused ≡ paused_then s b qs b.paused
-  pub copied : (x : ℕ) (c : Copies) → (called s (byte x) (box_after s b qs)).reply ≡ calls.received (received.Took c) →
+  pub copied : (x : ℕ) (c : Copies) → (called s (byte x) (box_after s b qs)).reply ≡ calls.received (Ok c) →
       c.count ≡ times_recorded s.settings (paused_then s b qs b.paused) x
-  pub gulped : (run : List ℕ) (room : ℕ) (g : Gulp) (bs : List ℕ) → (called s (bytes run room) (box_after s b qs)).reply ≡ gulp (gulped.Took g) bs →
+  pub gulped : (run : List ℕ) (room : ℕ) (g : Gulp) (bs : List ℕ) → (called s (bytes run room) (box_after s b qs)).reply ≡ gulp (Ok g) bs →
       bs ≡ records_of s (paused_then s b qs b.paused) (take g.taken run)
 
 -- ---- LOG counts

@@ -1,15 +1,12 @@
 -- WHAT A SCRIPT DOES: document 01, "Running", said of the script's own statements. There is no table here, no cell, no place and no pool.
-use Rattle.std.specs.Prelude.{ℕ, ◌-◌, Bool, true, false, cond, ◌&&◌, ◌||◌, List, [], ◌∷◌, ◌++◌, map, length, get_or, set, drop, replicate, ltb, leb, eqb}
+use Rattle.std.specs.Prelude.{ℕ, ◌-◌, Bool, true, false, cond, ◌&&◌, ◌||◌, List, [], ◌∷◌, ◌++◌, map, length, get_or, set, drop, replicate, ltb, leb, eqb, Ok, Err}
 use Rattle.reader.specs.Bytes.{same}
 use Rattle.language.specs.Script.{Statement, send, loop, end, wait_time, wait_data, wait_byte, wait_clock, wait_signal, rts, log, fchange, pause, resume, nop, Encode, unset, byte, Settings, Script}
 use Rattle.running.specs.Joined.{done}
 use Rattle.process.specs.declared.Reading.{Reading}
 use Rattle.process.specs.declared.RunRefusal.{RunRefusal}
 use Rattle.process.specs.declared.RunRefusal.TheVariants.{Busy, BadReading, NoSuchSignal, SmallBuffer}
-use Rattle.process.specs.declared.Taken.TheVariants as taken
-use Rattle.process.specs.declared.Received.{Received}
-use Rattle.process.specs.declared.Received.TheVariants as received
-use Rattle.process.specs.declared.Gulped.TheVariants as gulped
+use Rattle.process.specs.Answers.{Received}
 use Rattle.statement.specs.declared.outcome.Outcome.{Outcome}
 use Rattle.statement.specs.declared.outcome.Outcome.TheVariants.{Quiet, Sent, Recorded, Rts, Fchange, Pause, Resume, Plain, Refused}
 use Rattle.process.specs.Waiting.{same_level}
@@ -271,11 +268,11 @@ having ps b = record { processes = ps; reading = b.reading; levels = b.levels; p
 
 -- "A refusal alters no state"
 abbrev pub refuses : Box → RunRefusal → Called
-refuses b r = record { box = b; reply = event (taken.Refused r) }
+refuses b r = record { box = b; reply = event (Err r) }
 
 -- an event that is taken
 abbrev pub takes_event : Box → Called
-takes_event b = record { box = b; reply = event taken.Took }
+takes_event b = record { box = b; reply = event (Ok tt) }
 
 -- a process at its first statement
 abbrev pub at_first : List Statement → Process
@@ -291,7 +288,7 @@ tick_box b = cond (busy b) b (having (all_waiting ticked b) b)
 
 -- a received byte alone: what it is answered
 abbrev pub byte_answer : Script → ℕ → Box → Received
-byte_answer s x b = cond (busy b) (received.Refused Busy) (received.Took (record { count = times_recorded s.settings b.paused x }))
+byte_answer s x b = cond (busy b) (Err Busy) (Ok (record { count = times_recorded s.settings b.paused x }))
 
 -- and the box after it
 abbrev pub byte_box : ℕ → Box → Box
@@ -300,8 +297,8 @@ byte_box x b = cond (busy b) b (having (all_waiting (gets x) b) b)
 -- No. 2, "a whole gulp at once": what came of the single events, as a call's answer; "If a process is ready at the outset it takes none": 21
 abbrev pub gulps : Box → Gulping Box → Called
 gulps b g =
-    cond (busy b) (record { box = b; reply = gulp (gulped.Refused Busy) [] })
-    (record { box = g.box; reply = gulp (gulped.Took (record { taken = g.taken; recorded = length g.records })) g.records })
+    cond (busy b) (record { box = b; reply = gulp (Err Busy) [] })
+    (record { box = g.box; reply = gulp (Ok (record { taken = g.taken; recorded = length g.records })) g.records })
 
 -- "An event is taken only when no process is ready." 24, then 21, 22, 23; 25 is never answered
 unfoldable pub called : Script → Call → Box → Called

@@ -1,5 +1,3 @@
-pub mod MoveCases
 pub mod LoopCases
 pub mod Neighbours
-pub mod Others
 pub mod Examples

@@ -1,29 +1,22 @@
 -- The loop over the WAIT DATA lines that follow, one law for each way on. Assumes nothing.
-use Rattle.std.proofs.Common.{◌≡◌, ℕ, ◌+◌, ◌-◌, ◌*◌, ◌<◌, ◌≤◌, List, [], ◌∷◌, length, get_or, take, sym, refl, ap, ◌∙◌, subst, ap₂, add-one, arith, length-drop, drop_of_length-le, length-take, drop-cons, get_or-take}
+use Rattle.std.proofs.Common.{◌≡◌, ℕ, ◌+◌, ◌-◌, ◌*◌, ◌<◌, ◌≤◌, List, [], ◌∷◌, length, get_or, take, min, sym, refl, ap, ◌∙◌, subst, ap₂, add-one, arith, length-drop, drop_of_length-le, length-take, drop-cons, get_or-take}
 use lib.Seq.{slice}
 use Rattle.language.specs.declared.Cell.{Cell}
 use Rattle.language.specs.declared.Cell.TheVariants.{Nothing, Send, Loop, End, WaitTime, WaitData, WaitByte, WaitClock, WaitSignal, Rts, Log, Fchange, Pause, Resume, Nop, Unknown}
 use Rattle.language.specs.Cell.{decoded}
-use Rattle.language.specs.contracts.Cell.{the_type}
-use types.Run.{OneOf, miss}
-use denote.Enum.Declared.{tag_of}
 use Rattle.language.specs.declared.Span.{Span}
 use Rattle.statement.specs.declared.joining.Joined.{Joined}
 use Rattle.statement.specs.Joining.{more, awaited_bytes, neighbours, their_bytes}
 use Rattle.statement.specs.Inside.Joined.{joined_of}
 
--- the variants but WAIT DATA, by their tags: the code's last arm
-abbrev pub Others : Cell → Type 0
-Others c = OneOf (0 ∷ 1 ∷ 2 ∷ 3 ∷ 4 ∷ 6 ∷ 7 ∷ 8 ∷ 9 ∷ 10 ∷ 11 ∷ 12 ∷ 13 ∷ 14 ∷ 15 ∷ []) (tag_of the_type c)
-
 -- after another cell nothing is counted
-other : (c : Cell) → Others c → (x : ℕ) → more c x 0 ≡ 0
+other : (c : Cell) → ((s : Span) → c ≡ WaitData s → ⊥) → (x : ℕ) → more c x 0 ≡ 0
 other Nothing h x = refl
 other (Send s) h x = refl
 other (Loop n) h x = refl
 other End h x = refl
 other (WaitTime n) h x = refl
-other (WaitData s) h x = absurd (miss (0 ∷ 1 ∷ 2 ∷ 3 ∷ 4 ∷ 6 ∷ 7 ∷ 8 ∷ 9 ∷ 10 ∷ 11 ∷ 12 ∷ 13 ∷ 14 ∷ 15 ∷ []) 5 tt h)
+other (WaitData s) h x = absurd (h s refl)
 other (WaitByte n) h x = refl
 other (WaitClock k) h x = refl
 other (WaitSignal l) h x = refl
@@ -50,15 +43,12 @@ module _ {ws : List ℕ} {from end bytes n i : ℕ} (w : Joining ws from end byt
       made : {k b' c d : ℕ} → k ≡ c → b' ≡ d → ◌≡◌ {A = Joined} (record { cells = k; bytes = b' }) (record { cells = c; bytes = d })
       made p q = cc
 
-  gone : slice i end ws ≡ [] → {r : Joined} → (r.cells ≡ n) × (r.bytes ≡ bytes) → r ≡ joined_of (slice from end ws)
+  -- no word is left before the end of the table or of the process
+  pub join_past : min end (length ws) ≤ i → {r : Joined} → (r.cells ≡ n) × (r.bytes ≡ bytes) → r ≡ joined_of (slice from end ws)
   unfolding neighbours their_bytes
-  gone s = none (ap neighbours s) (ap their_bytes s)
-
-  pub join_past : length ws ≤ i → {r : Joined} → (r.cells ≡ n) × (r.bytes ≡ bytes) → r ≡ joined_of (slice from end ws)
-  join_past h = gone (drop_of_length-le (take end ws) {i = i} (simp length-take (omega arith)))
-
-  pub join_end : end ≤ i → {r : Joined} → (r.cells ≡ n) × (r.bytes ≡ bytes) → r ≡ joined_of (slice from end ws)
-  join_end h = gone (drop_of_length-le (take end ws) {i = i} (simp length-take (omega arith)))
+  join_past h =
+      let s : slice i end ws ≡ [] = drop_of_length-le (take end ws) {i = i} (simp length-take (omega arith)) in
+      none (ap neighbours s) (ap their_bytes s)
 
   module _ (inside : i < length ws) (before : i < end) where
     here : slice i end ws ≡ get_or ws i 0 ∷ slice (i + 1) end ws
@@ -74,7 +64,7 @@ module _ {ws : List ℕ} {from end bytes n i : ℕ} (w : Joining ws from end byt
     unfolding their_bytes
     first_bytes = ap their_bytes here
 
-    pub join_other : {c : Cell} → c ≡ decoded (get_or ws i 0) → Others c → {r : Joined} → (r.cells ≡ n) × (r.bytes ≡ bytes) → r ≡ joined_of (slice from end ws)
+    pub join_other : {c : Cell} → c ≡ decoded (get_or ws i 0) → ((s : Span) → c ≡ WaitData s → ⊥) → {r : Joined} → (r.cells ≡ n) × (r.bytes ≡ bytes) → r ≡ joined_of (slice from end ws)
     join_other {c} e o =
         let t : (x : ℕ) → more (decoded (get_or ws i 0)) x 0 ≡ 0 = subst (λ (d : Cell). (x : ℕ) → more d x 0 ≡ 0) e (other c o) in
         none (first ∙ t _) (first_bytes ∙ t _)

@@ -2,8 +2,7 @@
 use Rattle.std.specs.Prelude.{ℕ, ◌+◌, ◌-◌, cond, List, ◌==◌, nat_le, nat_lt, slice_index, slice_set}
 use Rattle.language.specs.Limits.{loop_places}
 use Rattle.process.specs.declared.Process.{Process}
-use Rattle.statement.specs.declared.loops.Moved.{Moved}
-use Rattle.statement.specs.Ways.{astray, goes}
+use Rattle.statement.specs.Ways.{Moved, astray, goes}
 
 -- LOOP n, with the place after it: a ninth open loop leaves the table
 unfoldable pub opened : Process → ℕ → ℕ → Moved

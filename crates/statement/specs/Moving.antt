@@ -11,8 +11,7 @@ use Rattle.process.specs.declared.Wait.{Wait}
 use Rattle.process.specs.declared.Wait.TheVariants.{Ticks, Bytes, Data, ClockValue, Signal}
 use Rattle.process.specs.declared.Process.{Process}
 use Rattle.statement.specs.Joining.{neighbours, their_bytes}
-use Rattle.statement.specs.declared.loops.Moved.{Moved}
-use Rattle.statement.specs.Ways.{astray, moved_to, goes}
+use Rattle.statement.specs.Ways.{Moved, astray, moved_to, goes}
 use Rattle.statement.specs.Loops.{opened, closed}
 use Rattle.process.specs.Waiting.{same_level}
 

@@ -5,18 +5,18 @@ ghost use Rattle.statement.specs.Saying.{outcome_of, paused_by, counted_by};
 use language::Cell;
 use process::RunRefusal;
 
-#[derive(Clone, Copy)]
+#[derive(Clone, Copy, PartialEq, Eq, Debug)]
 pub struct Written {
     pub bytes: usize,
 }
 
-#[derive(Clone, Copy)]
+#[derive(Clone, Copy, PartialEq, Eq, Debug)]
 pub struct Switch {
     pub on: bool,
 }
 
 // What a drain says: none is ready; or what the statement sent, recorded or switched, Plain where it did none of these.
-#[derive(Clone, Copy)]
+#[derive(Clone, Copy, PartialEq, Eq, Debug)]
 pub enum Outcome {
     Quiet,
     Sent(Written),
@@ -30,6 +30,7 @@ pub enum Outcome {
 }
 
 // What a statement says that wrote n bytes.
+#[tactic(auto, unfolding(crate::specs::Saying::outcome_of))]
 pub fn said(cell: Cell, n: usize) -> Outcome
     ensures { result ≡ outcome_of n cell }
 {
@@ -45,6 +46,7 @@ pub fn said(cell: Cell, n: usize) -> Outcome
 }
 
 // "PAUSE and RESUME act from the next byte".
+#[tactic(auto, unfolding(crate::specs::Saying::paused_by))]
 pub fn pauses(cell: Cell, paused: bool) -> bool
     ensures { result ≡ paused_by paused cell }
 {
@@ -56,11 +58,12 @@ pub fn pauses(cell: Cell, paused: bool) -> bool
 }
 
 // A LOG statement has recorded once more: "4294967295 is followed by 0".
+#[tactic(auto, unfolding(crate::specs::Saying::counted_by, record::specs::Logging::next_count))]
 pub fn counted(cell: Cell, n: u32) -> u32
     ensures { result ≡ counted_by n cell }
 {
     match cell {
-        Cell::Log(_) => std::num::wrapping_add_u32(n, 1),
+        Cell::Log(_) => n.wrapping_add(1),
         _ => n,
     }
 }

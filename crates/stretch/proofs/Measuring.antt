@@ -7,17 +7,15 @@ use native.Mathlib.Decide.{dec_le}
 use native.Mathlib.Numerals.{add-one}
 use native.Mathlib.Omega.{arith}
 use lib.ListN.{length, get_or, take, drop, length-take, drop_of_length-le}
-use lib.Seq.{drop-cons, get_or-take, take_all}
+use lib.Seq.{drop-cons, take_all}
 use borrow.Author.Tests.{le-leb, lt-leb}
 use Rattle.figures.specs.declared.Figures.{Figures}
 use Rattle.figures.specs.Flat.{Mark, deepest, marks_nest}
 use Rattle.figures.specs.Cap.{limit}
-use Rattle.stretch.specs.declared.Alone.{Alone}
-use Rattle.stretch.specs.declared.Alone.TheVariants.{Nests, Strays}
-use Rattle.stretch.specs.declared.Measured.{Measured}
-use Rattle.stretch.specs.declared.Measured.TheVariants.{Largest, Over, Broken}
+use Rattle.std.specs.Prelude.{Option, Some, None, Result, Ok, Err}
+use Rattle.stretch.specs.declared.StretchFault.{StretchFault}
+use Rattle.stretch.specs.declared.StretchFault.TheVariants.{Over, Broken}
 use Rattle.stretch.specs.declared.Ran.{Ran}
-use Rattle.stretch.specs.declared.Ran.TheVariants as ran
 use Rattle.stretch.specs.Marks.{word_mark, marks_between, processes_from, marks_to}
 use Rattle.stretch.specs.Inside.Measured.{stretch_in, alone, measured_from}
 use Rattle.stretch.specs.Inside.Scan.{RunTells}
@@ -26,7 +24,7 @@ use Rattle.stretch.proofs.Marking.{marks_between_lem}
 -- ---- a process by its places
 
 -- places after the last cell add nothing
-take_clip : (n k : ℕ) (l : List ℕ) → k ≡ min n (length l) → take k l ≡ take n l
+pub take_clip : (n k : ℕ) (l : List ℕ) → k ≡ min n (length l) → take k l ≡ take n l
 take_clip n k l e = elim (dec_le n (length l)) [
   | yes h ↦ (let m : k ≡ n = omega arith in rw m)
   | no h ↦ take_all k l (omega arith) ∙ sym (take_all n l (omega arith))
@@ -46,74 +44,73 @@ module _ (cells : List ℕ) (from end first behind : ℕ) (b : behind ≡ min en
       (drop_clip from first (take behind cells) (omega (arith, length-take behind cells)) ∙ ap (drop from) (take_clip end behind cells b))
 
   -- what a scan of its marks tells
-  abbrev Told : Ran → Type 0
+  abbrev Told : Option Ran → Type 0
   Told = RunTells (marks_to cells behind) first deepest
 
-  module _ (r : Ran) (t : Told r) where
-    pub alone_nests : (found : Figures) (next : ℕ) → r ≡ ran.To found next → Nests found.longest ≡ alone (marks_between cells from end)
-    alone_nests found next e =
+  module _ (r : Option Ran) (t : Told r) where
+    pub alone_nests : (found : Ran) → r ≡ Some found → Some found.figures.longest ≡ alone (marks_between cells from end)
+    alone_nests found e =
         let s = subst Told e t in
-        let f : stretch_in (drop first (marks_to cells behind)) ≡ found.longest = sym (ap (λ (a : Figures). a.longest) s.exact) in
+        let f : stretch_in (drop first (marks_to cells behind)) ≡ found.figures.longest = sym (ap (λ (a : Figures). a.longest) s.exact) in
         rw (← clipped, ← marks_between_lem cells behind first, s.nests, f)
 
-    pub alone_strays : r ≡ ran.Strays → Strays ≡ alone (marks_between cells from end)
+    pub alone_strays : r ≡ None → None ≡ alone (marks_between cells from end)
     alone_strays e = rw (← clipped, ← marks_between_lem cells behind first, subst Told e t)
 
 -- ---- one after the other
 
 -- what a process by itself tells of its marks
-nests_told : (t : Bool) (s k : ℕ) → cond t (Nests s) Strays ≡ Nests k → (t ≡ true) × (s ≡ k)
+nests_told : (t : Bool) (s k : ℕ) → cond t (Some s) None ≡ Some k → (t ≡ true) × (s ≡ k)
 nests_told true s k e = (refl, cc)
 nests_told false s k e = let z : ◌≡◌ {A = ℕ} 0 1 = cc in absurd (omega arith)
 
-strays_told : (t : Bool) (s : ℕ) → cond t (Nests s) Strays ≡ Strays → t ≡ false
+strays_told : (t : Bool) (s : ℕ) → cond t (Some s) None ≡ None → t ≡ false
 strays_told true s e = let z : ◌≡◌ {A = ℕ} 0 1 = cc in absurd (omega arith)
 strays_told false s e = refl
 
 -- what is answered of the processes that end at these places
-abbrev answered : List ℕ → List ℕ → ℕ → Measured
-answered cells ends count = measured_from 1 0 (processes_from cells 0 (take count ends))
+abbrev pub answered : List ℕ → List ℕ → Result ℕ StretchFault
+answered cells es = measured_from 1 0 (processes_from cells 0 es)
 
--- What the loop keeps: what is answered of the rest is what is answered of all.
-pub record Measuring (cells ends : List ℕ) (count best from number i : ℕ) : Type 0 where
-  pub same : measured_from number best (processes_from cells from (drop i (take count ends))) ≡ answered cells ends count
-  pub numbered : number ≡ i + 1
+-- What the loop keeps: what is answered of the rest, from the place i on, is what is answered of all.
+pub record Measuring (cells es : List ℕ) (best from i : ℕ) : Type 0 where
+  pub same : measured_from (i + 1) best (processes_from cells from (drop i es)) ≡ answered cells es
 
-module _ (cells ends : List ℕ) (count : ℕ) where
-  pub measuring_starts : Measuring cells ends count 0 0 1 0
-  measuring_starts = record { same = refl; numbered = refl }
+module _ (cells es : List ℕ) where
+  pub measuring_starts : Measuring cells es 0 0 0
+  measuring_starts = record { same = refl }
 
-  module _ (best from number i processes : ℕ) (m : Measuring cells ends count best from number i) (p : processes ≡ min count (length ends)) where
-    abbrev rest : List ℕ → Measured
-    rest es = measured_from number best (processes_from cells from es)
+  module _ (best from i : ℕ) (m : Measuring cells es best from i) where
+    abbrev rest : List ℕ → Result ℕ StretchFault
+    rest l = measured_from (i + 1) best (processes_from cells from l)
 
-    pub measuring_past : processes ≤ i → Largest best ≡ answered cells ends count
+    pub measuring_past : length es ≤ i → Ok best ≡ answered cells es
     unfolding measured_from processes_from
-    measuring_past h = sym (ap rest (drop_of_length-le (take count ends) {i = i} (omega (arith, length-take count ends)))) ∙ m.same
+    measuring_past h = sym (ap rest (drop_of_length-le es {i = i} h)) ∙ m.same
 
-    module _ (h : i < processes) (end : ℕ) (e : end ≡ get_or ends i 0) where
+    module _ (h : i < length es) (end : ℕ) (e : end ≡ get_or es i 0) where
       abbrev one : List Mark
       one = marks_between cells from end
 
-      next : drop i (take count ends) ≡ end ∷ drop (i + 1) (take count ends)
-      next = drop-cons (take count ends) i 0 (omega (arith, length-take count ends)) ∙ rw (get_or-take count ends i 0 (omega arith), e, add-one i)
+      next : drop i es ≡ end ∷ drop (i + 1) es
+      next = drop-cons es i 0 h ∙ rw (e, add-one i)
 
-      same_here : rest (end ∷ drop (i + 1) (take count ends)) ≡ answered cells ends count
+      same_here : rest (end ∷ drop (i + 1) es) ≡ answered cells es
       same_here = ap rest (sym next) ∙ m.same
 
-      module _ (found : Alone) (a : found ≡ alone one) where
-        module _ (k : ℕ) (n : found ≡ Nests k) where
+      module _ (found : Option ℕ) (a : found ≡ alone one) where
+        module _ (k : ℕ) (n : found ≡ Some k) where
           told : (marks_nest 0 one ≡ true) × (stretch_in one ≡ k)
           told = nests_told (marks_nest 0 one) (stretch_in one) k (sym a ∙ n)
 
-          pub measuring_on : k ≤ limit → Measuring cells ends count (max best k) end (number + 1) (i + 1)
+          pub measuring_on : k ≤ limit → Measuring cells es (max best k) end (i + 1)
           unfolding measured_from processes_from
-          measuring_on l = record { same = sym (rw (told.0, told.1, le-leb k limit l)) ∙ same_here; numbered = ap (λ (x : ℕ). x + 1) m.numbered }
+          measuring_on l = record { same = sym (rw (told.0, told.1, le-leb k limit l)) ∙ same_here }
 
-          pub measuring_over : limit < k → Over number ≡ answered cells ends count
+          pub measuring_over : limit < k → Err (Over (i + 1)) ≡ answered cells es
           unfolding measured_from processes_from
           measuring_over l = sym (rw (told.0, told.1, lt-leb k limit l)) ∙ same_here
 
-        pub measuring_strays : found ≡ Strays → Broken ≡ answered cells ends count
+        pub measuring_strays : found ≡ None → Err Broken ≡ answered cells es
         unfolding measured_from processes_from
         measuring_strays n = sym (rw (strays_told (marks_nest 0 one) (stretch_in one) (sym a ∙ n))) ∙ same_here

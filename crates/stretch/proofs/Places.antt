@@ -6,7 +6,7 @@ use native.Mathlib.Omega.{arith}
 use lib.ListN.{length, get_or, take, length-take}
 use lib.Seq.{get_or-take}
 use Rattle.language.specs.declared.Heads.{Heads}
-use Rattle.stretch.specs.declared.Measured.TheVariants.{Largest}
+use Rattle.std.specs.Prelude.{Ok}
 use Rattle.stretch.specs.Marks.{marks_between, processes_from, processes_of, begins_at, ends_at}
 use Rattle.stretch.specs.Inside.Measured.{measured}
 use Rattle.stretch.specs.Reported.{process_at, AtMost, AnswerSays}
@@ -40,6 +40,6 @@ module _ (cells : List ℕ) (heads : Heads) (i : ℕ) (h : i < heads.processes) 
       ∙ ap₂ (marks_between cells) (get_d_begin heads.processes heads.ends i h) (get_or-take heads.processes heads.ends i 0 h)
 
   -- its loops nest, and its stretch is at most k
-  pub measured_each : {k : ℕ} → measured cells heads ≡ Largest k → AtMost (marks_between cells (begins_at heads i) (ends_at heads i)) k
+  pub measured_each : {k : ℕ} → measured cells heads ≡ Ok k → AtMost (marks_between cells (begins_at heads i) (ends_at heads i)) k
   unfolding AnswerSays
   measured_each e = rw process_between at ((subst (AnswerSays (processes_of cells heads)) e (measured_reported cells heads)).each i inside)

@@ -18,8 +18,9 @@ use Rattle.figures.specs.Stretch as figures
 use Rattle.figures.specs.Cap.{limit}
 use Rattle.figures.proofs.Stretches.{stretch_is, over_is, one_stretch, over_less}
 use Rattle.language.specs.declared.Heads.{Heads}
-use Rattle.stretch.specs.declared.Measured.{Measured}
-use Rattle.stretch.specs.declared.Measured.TheVariants.{Largest, Over, Broken}
+use Rattle.std.specs.Prelude.{Result, Ok, Err}
+use Rattle.stretch.specs.declared.StretchFault.{StretchFault}
+use Rattle.stretch.specs.declared.StretchFault.TheVariants.{Over, Broken}
 use Rattle.stretch.specs.Marks.{processes_of}
 use Rattle.stretch.specs.Inside.Measured.{stretch_in, measured_from, measured}
 use Rattle.stretch.specs.Reported.{process_at, HasStretch, AtMost, Reached, Most, Exceeds, Breaks, AnswerSays, Reported}
@@ -87,6 +88,9 @@ module _ (ps : List (List Mark)) where
 
 -- ---- nothing else is
 
+abbrev over : ℕ → Result ℕ StretchFault
+over n = Err (Over n)
+
 not_both : {p : List Mark} {k : ℕ} → AtMost p k → figures.Over (fragment p) limit → ⊥
 not_both {p} w o = omega (arith, over_less (fragment p) o w.fits.exact, w.fits.low)
 
@@ -114,19 +118,19 @@ module _ (ps : List (List Mark)) where
       in
       true≢false (sym s.nested ∙ rw e t.strays)
 
-  pub one_report : (a b : Measured) → AnswerSays ps a → AnswerSays ps b → a ≡ b
+  pub one_report : (a b : Result ℕ StretchFault) → AnswerSays ps a → AnswerSays ps b → a ≡ b
   unfolding AnswerSays
-  one_report (Largest j) (Largest k) s t = ap Largest (le_antisymm (largest_less s t) (largest_less t s))
-  one_report (Largest j) (Over n) s t = absurd (not_both (s.each t.place t.inside) t.over)
-  one_report (Largest j) Broken s t = absurd (nests_both (s.each t.place t.inside) t.strays)
-  one_report (Over n) (Largest k) s t = absurd (not_both (t.each s.place s.inside) s.over)
-  one_report (Over n) (Over m) s t =
-      ap Over
+  one_report (Ok j) (Ok k) s t = ap Ok (le_antisymm (largest_less s t) (largest_less t s))
+  one_report (Ok j) (Err (Over n)) s t = absurd (not_both (s.each t.place t.inside) t.over)
+  one_report (Ok j) (Err Broken) s t = absurd (nests_both (s.each t.place t.inside) t.strays)
+  one_report (Err (Over n)) (Ok k) s t = absurd (not_both (t.each s.place s.inside) s.over)
+  one_report (Err (Over n)) (Err (Over m)) s t =
+      ap over
       (omega (arith, over_late s.place t.place t.earlier s.over, over_late t.place s.place s.earlier t.over, s.numbered, t.numbered))
-  one_report (Over n) Broken s t = absurd (over_breaks n s t)
-  one_report Broken (Largest k) s t = absurd (nests_both (t.each s.place s.inside) s.strays)
-  one_report Broken (Over m) s t = absurd (over_breaks m t s)
-  one_report Broken Broken s t = refl
+  one_report (Err (Over n)) (Err Broken) s t = absurd (over_breaks n s t)
+  one_report (Err Broken) (Ok k) s t = absurd (nests_both (t.each s.place s.inside) s.strays)
+  one_report (Err Broken) (Err (Over m)) s t = absurd (over_breaks m t s)
+  one_report (Err Broken) (Err Broken) s t = refl
 
 -- ---- of a table
 
@@ -134,5 +138,5 @@ module _ (cells : List ℕ) (heads : Heads) where
   pub measured_reported : Reported cells heads (measured cells heads)
   measured_reported = says_measured (processes_of cells heads)
 
-  pub one_answer : (a b : Measured) → Reported cells heads a → Reported cells heads b → a ≡ b
+  pub one_answer : (a b : Result ℕ StretchFault) → Reported cells heads a → Reported cells heads b → a ≡ b
   one_answer = one_report (processes_of cells heads)

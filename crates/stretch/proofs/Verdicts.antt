@@ -20,24 +20,25 @@ use Rattle.language.specs.Draft.{accepted, refused_whole, stretched}
 use Rattle.language.specs.Right.{encode_right, settings_right, all_right, data_in, nests, all_below}
 use Rattle.language.specs.Table.{ends_from, heads_of, laid_out, script_of}
 use Rattle.language.proofs.Tables.{script_back}
-use Rattle.stretch.specs.declared.Measured.{Measured}
-use Rattle.stretch.specs.declared.Measured.TheVariants.{Largest, Over, Broken}
+use Rattle.std.specs.Prelude.{Result, Ok, Err, is_ok}
+use Rattle.stretch.specs.declared.StretchFault.{StretchFault}
+use Rattle.stretch.specs.declared.StretchFault.TheVariants.{Over, Broken}
 use Rattle.stretch.specs.Marks.{processes_of}
-use Rattle.stretch.specs.Inside.Measured.{measured_from, measured, is_largest}
+use Rattle.stretch.specs.Inside.Measured.{measured_from, measured}
 use Rattle.stretch.proofs.Scripts.{marks_of, table_marks, all_nest, nests_processes}
 
 -- what an answer says of processes that are told by their statements, `best` being the largest stretch and `number` - 1 the number of those before
-abbrev Verdict : Script → List (List Statement) → ℕ → ℕ → Measured → Type 0
-Verdict s ps number best (Largest k) = (stretched stretch_of ps number s ≡ accepted s) × (k ≡ max best (largest_of ps))
-Verdict s ps number best (Over n) = stretched stretch_of ps number s ≡ refused_whole StretchTooLong n
-Verdict s ps number best Broken = ⊥
+abbrev Verdict : Script → List (List Statement) → ℕ → ℕ → Result ℕ StretchFault → Type 0
+Verdict s ps number best (Ok k) = (stretched stretch_of ps number s ≡ accepted s) × (k ≡ max best (largest_of ps))
+Verdict s ps number best (Err (Over n)) = stretched stretch_of ps number s ≡ refused_whole StretchTooLong n
+Verdict s ps number best (Err Broken) = ⊥
 
-verdict_more : (s : Script) (p : List Statement) (ps : List (List Statement)) (number best : ℕ) (r : Measured) → leb (stretch_of p) limit ≡ true
+verdict_more : (s : Script) (p : List Statement) (ps : List (List Statement)) (number best : ℕ) (r : Result ℕ StretchFault) → leb (stretch_of p) limit ≡ true
     → Verdict s ps (number + 1) (max best (stretch_of p)) r → Verdict s (p ∷ ps) number best r
 unfolding stretched largest_of
-verdict_more s p ps number best (Largest k) l v = (rw l v.0, omega (arith, v.1))
-verdict_more s p ps number best (Over n) l v = rw l v
-verdict_more s p ps number best Broken l v = v
+verdict_more s p ps number best (Ok k) l v = (rw l v.0, omega (arith, v.1))
+verdict_more s p ps number best (Err (Over n)) l v = rw l v
+verdict_more s p ps number best (Err Broken) l v = v
 
 verdict : (s : Script) (ps : List (List Statement)) (number best : ℕ) → all_nest 0 (marks_of ps) ≡ true
     → Verdict s ps number best (measured_from number best (marks_of ps))
@@ -60,16 +61,16 @@ some_end (does s ∷ is) i = some_end is (i + 1)
 some_end (next ∷ is) i = omega arith
 
 -- what an answer says of a script: it is accepted, and that is its largest stretch; or it is refused at this process
-abbrev pub Answers : Script → Measured → Type 0
-Answers s (Largest k) = (stretched stretch_of (processes s.body) 1 s ≡ accepted s) × (k ≡ largest s.body)
-Answers s (Over n) = stretched stretch_of (processes s.body) 1 s ≡ refused_whole StretchTooLong n
-Answers s Broken = ⊥
+abbrev pub Answers : Script → Result ℕ StretchFault → Type 0
+Answers s (Ok k) = (stretched stretch_of (processes s.body) 1 s ≡ accepted s) × (k ≡ largest s.body)
+Answers s (Err (Over n)) = stretched stretch_of (processes s.body) 1 s ≡ refused_whole StretchTooLong n
+Answers s (Err Broken) = ⊥
 
-answers : (s : Script) (r : Measured) → Verdict s (processes s.body) 1 0 r → Answers s r
+answers : (s : Script) (r : Result ℕ StretchFault) → Verdict s (processes s.body) 1 0 r → Answers s r
 unfolding largest
-answers s (Largest k) v = (v.0, omega (arith, v.1))
-answers s (Over n) v = v
-answers s Broken v = v
+answers s (Ok k) v = (v.0, omega (arith, v.1))
+answers s (Err (Over n)) v = v
+answers s (Err Broken) v = v
 
 module _ (s : Script) (rights : all_right s.body ≡ true) (bytes : data_in s.body ≤ data_limit) where
   -- the settings do not matter for it
@@ -97,27 +98,27 @@ module _ (s : Script) (rights : all_right s.body ≡ true) (bytes : data_in s.bo
         (answers s (measured_from 1 0 (marks_of (processes s.body))) (verdict s (processes s.body) 1 0 (sym (nests_processes s.body 0) ∙ nested)))
 
     -- by the answer, as the code finds it
-    pub script_largest : {k : ℕ} → measured (laid_out s).cells (laid_out s).heads ≡ Largest k
+    pub script_largest : {k : ℕ} → measured (laid_out s).cells (laid_out s).heads ≡ Ok k
         → (stretched stretch_of (processes s.body) 1 s ≡ accepted s) × (k ≡ largest s.body)
     script_largest e = subst (Answers s) e measured_script
 
-    pub script_over : {n : ℕ} → measured (laid_out s).cells (laid_out s).heads ≡ Over n → stretched stretch_of (processes s.body) 1 s ≡ refused_whole StretchTooLong n
+    pub script_over : {n : ℕ} → measured (laid_out s).cells (laid_out s).heads ≡ Err (Over n) → stretched stretch_of (processes s.body) 1 s ≡ refused_whole StretchTooLong n
     script_over e = subst (Answers s) e measured_script
 
-    pub script_nests : measured (laid_out s).cells (laid_out s).heads ≡ Broken → ⊥
+    pub script_nests : measured (laid_out s).cells (laid_out s).heads ≡ Err Broken → ⊥
     script_nests e = subst (Answers s) e measured_script
 
 -- ---- any table that has a process
 
-right_more : (n l : Bool) (number : ℕ) (r : Measured) (a b : Bool) → is_largest r ≡ (a && b)
-    → is_largest (cond n (cond l r (Over number)) Broken) ≡ ((n && a) && (l && b))
+right_more : (n l : Bool) (number : ℕ) (r : Result ℕ StretchFault) (a b : Bool) → is_ok r ≡ (a && b)
+    → is_ok (cond n (cond l r (Err (Over number))) (Err Broken)) ≡ ((n && a) && (l && b))
 right_more true true number r a b h = h
 right_more true false number r true b h = refl
 right_more true false number r false b h = refl
 right_more false l number r a b h = refl
 
 right_from : (ps : List (List Statement)) (number best : ℕ)
-    → is_largest (measured_from number best (marks_of ps)) ≡ (all_nest 0 (marks_of ps) && all_below stretch_of ps)
+    → is_ok (measured_from number best (marks_of ps)) ≡ (all_nest 0 (marks_of ps) && all_below stretch_of ps)
 unfolding measured_from all_nest all_below flat.marks_nest stretch_of
 right_from [] number best = refl
 right_from (p ∷ ps) number best =
@@ -125,13 +126,13 @@ right_from (p ∷ ps) number best =
 
 module _ (t : Table) (some : 0 < length (take t.heads.processes t.heads.ends)) where
   -- its script's loops nest and no stretch is too long just when there is a largest
-  pub measured_right : is_largest (measured t.cells t.heads) ≡ (nests (script_of t).body 0 && all_below stretch_of (processes (script_of t).body))
+  pub measured_right : is_ok (measured t.cells t.heads) ≡ (nests (script_of t).body 0 && all_below stretch_of (processes (script_of t).body))
   measured_right = rw (table_marks t some, nests_processes (script_of t).body 0) (right_from (processes (script_of t).body) 1 0)
 
   -- and that is its script's
-  pub measured_table : {k : ℕ} → measured t.cells t.heads ≡ Largest k → Answers (script_of t) (Largest k)
+  pub measured_table : {k : ℕ} → measured t.cells t.heads ≡ Ok k → Answers (script_of t) (Ok k)
   measured_table {k} e =
       let s : Script = script_of t in
-      let nested : nests s.body 0 ≡ true = both_left (nests s.body 0) _ (sym measured_right ∙ ap is_largest e) in
-      let r : measured_from 1 0 (marks_of (processes s.body)) ≡ Largest k = ap (measured_from 1 0) (sym (table_marks t some)) ∙ e in
-      answers s (Largest k) (subst (Verdict s (processes s.body) 1 0) r (verdict s (processes s.body) 1 0 (sym (nests_processes s.body 0) ∙ nested)))
+      let nested : nests s.body 0 ≡ true = both_left (nests s.body 0) _ (sym measured_right ∙ ap is_ok e) in
+      let r : measured_from 1 0 (marks_of (processes s.body)) ≡ Ok k = ap (measured_from 1 0) (sym (table_marks t some)) ∙ e in
+      answers s (Ok k) (subst (Verdict s (processes s.body) 1 0) r (verdict s (processes s.body) 1 0 (sym (nests_processes s.body 0) ∙ nested)))

@@ -1,13 +1,13 @@
 -- What an answer says of a table, in terms of the written-out form alone: "The reported count equals the longest run in the
 -- written-out definition." Assumes nothing: these are definitions.
-use Rattle.std.specs.Prelude.{◌≡◌, true, false, List, [], ◌⊎◌, ℕ, ◌+◌, ◌≤◌, ◌<◌, length, get_or}
+use Rattle.std.specs.Prelude.{◌≡◌, true, false, List, [], ◌⊎◌, ℕ, ◌+◌, ◌≤◌, ◌<◌, length, get_or, Result, Ok, Err}
 use Rattle.figures.specs.Flat.{Mark, fragment, marks_nest}
 use Rattle.figures.specs.Stretch as figures
 use Rattle.figures.specs.Cap.{limit}
 use Rattle.figures.specs.Stretch.{Stretch}
 use Rattle.language.specs.declared.Heads.{Heads}
-use Rattle.stretch.specs.declared.Measured.{Measured}
-use Rattle.stretch.specs.declared.Measured.TheVariants.{Largest, Over, Broken}
+use Rattle.stretch.specs.declared.StretchFault.{StretchFault}
+use Rattle.stretch.specs.declared.StretchFault.TheVariants.{Over, Broken}
 use Rattle.stretch.specs.Marks.{processes_of}
 
 -- the process after i others
@@ -54,11 +54,11 @@ pub record Breaks (ps : List (List Mark)) : Type 0 where
   pub strays : marks_nest 0 (process_at ps place) ≡ false
 
 -- what an answer says of some processes
-unfoldable pub AnswerSays : List (List Mark) → Measured → Type 0
-AnswerSays ps (Largest k) = Most ps (length ps) k
-AnswerSays ps (Over number) = Exceeds ps number
-AnswerSays ps Broken = Breaks ps
+unfoldable pub AnswerSays : List (List Mark) → Result ℕ StretchFault → Type 0
+AnswerSays ps (Ok k) = Most ps (length ps) k
+AnswerSays ps (Err (Over number)) = Exceeds ps number
+AnswerSays ps (Err Broken) = Breaks ps
 
 -- what it says of a table
-abbrev pub Reported : List ℕ → Heads → Measured → Type 0
+abbrev pub Reported : List ℕ → Heads → Result ℕ StretchFault → Type 0
 Reported cells heads r = AnswerSays (processes_of cells heads) r

@@ -1,7 +1,7 @@
 // The stretch of each process, read off a table's cells.
 #![tactic(auto)]
 
-ghost use Rattle.std.specs.Prelude.{◌≡◌, cond, ◌≤◌, max, min, ltb, length, take};
+ghost use Rattle.std.specs.Prelude.{◌≡◌, cond, ◌≤◌, ltb, length, take};
 ghost use Rattle.figures.specs.Flat.{sure_rest, plain};
 ghost use Rattle.language.specs.Limits.{process_limit};
 ghost use Rattle.stretch.specs.Marks.{cell_mark, marks_between, processes_from, marks_to};
@@ -15,11 +15,9 @@ use figures::Figures;
 use figures::runs::LIMIT;
 use language::{Cell, Cells, Heads, LOOPS};
 
-/// What is answered of a table.
-#[derive(Clone, Copy)]
-pub enum Measured {
-    /// The largest stretch of any process.
-    Largest(u32),
+/// Why a table has no largest stretch.
+#[derive(Clone, Copy, PartialEq, Eq, Debug)]
+pub enum StretchFault {
     /// A stretch is over 4,096: the lowest process number, from 1.
     Over(u32),
     /// Loops do not nest, or nest deeper than 8.
@@ -35,18 +33,11 @@ enum Role {
     End,
 }
 
-// What is answered of one process: its loops nest, and its stretch is this, 4,097 standing for all over 4,096; or they do not.
+// What a scan finds where the loops nest: figures, and the place after what was scanned.
 #[derive(Clone, Copy)]
-enum Alone {
-    Nests(u32),
-    Strays,
-}
-
-// What a scan finds: figures, and the place after what was scanned; or that the loops do not nest.
-#[derive(Clone, Copy)]
-enum Ran {
-    To(Figures, usize),
-    Strays,
+struct Ran {
+    figures: Figures,
+    next: usize,
 }
 
 // "WAIT TIME and WAIT BYTE above zero".
@@ -61,11 +52,11 @@ fn role_of(c: Cell) -> Role
     ensures { marked result ≡ cell_mark c }
 {
     match c {
-        Cell::Loop(n) => Role::Loop(n as u32),
+        Cell::Loop(n) => Role::Loop(u32::from(n)),
         Cell::End => Role::End,
         Cell::WaitTime(n) => rest_above_zero(n),
         Cell::WaitData(_) => Role::SureRest,
-        Cell::WaitByte(n) => rest_above_zero(n as u32),
+        Cell::WaitByte(n) => rest_above_zero(u32::from(n)),
         Cell::WaitClock(_) => Role::SureRest,
         Cell::WaitSignal(_) => Role::Other,
         _ => Role::Other,
@@ -75,12 +66,13 @@ fn role_of(c: Cell) -> Role
 // The figures of the statements from `at` on, up to the END of their loop or, where none is open, the place `end`, and the place after that.
 // Of eight loops `left` are left: at the top all, in a body one less.
 #[cycle(body_figures_run_figures)]
-fn run_figures(cells: &Cells, at: usize, end: usize, left: usize) -> Ran
+fn run_figures(cells: &Cells, at: usize, end: usize, left: usize) -> Option<Ran>
     requires { Scannable cells.now at end left }
     ensures { RunTells (marks_to cells.now end) at left result }
 {
     let mut sum = Figures::nothing();
     let mut i = at;
+    // Not a `for`: the place goes past a loop's body at once.
     while i < end {
         let role = role_of(cell_at(cells, i));
         match role {
@@ -94,114 +86,81 @@ fn run_figures(cells: &Cells, at: usize, end: usize, left: usize) -> Ran
             }
             Role::Loop(n) => {
                 let entered = sum.join(Figures::plain());
-                let body = body_figures(cells, i + 1, end, left, n);
-                let Ran::To(passes, next) = body else {
-                    return Ran::Strays;
-                };
-                sum = entered.join(passes);
-                i = next;
+                let passes = body_figures(cells, i + 1, end, left, n)?;
+                sum = entered.join(passes.figures);
+                i = passes.next;
             }
             Role::End => {
                 if left < LOOPS {
-                    return Ran::To(sum, i + 1);
+                    return Some(Ran {
+                        figures: sum,
+                        next: i + 1,
+                    });
                 }
-                return Ran::Strays;
+                return None;
             }
         }
     }
     if left == LOOPS {
-        return Ran::To(sum, i);
+        return Some(Ran {
+            figures: sum,
+            next: i,
+        });
     }
-    Ran::Strays
+    None
 }
 
 // The figures of all passes of LOOP n, whose body starts at `at`, and the place after its END.
 #[cycle(body_figures_run_figures)]
-fn body_figures(cells: &Cells, at: usize, end: usize, left: usize, n: u32) -> Ran
+fn body_figures(cells: &Cells, at: usize, end: usize, left: usize, n: u32) -> Option<Ran>
     requires { Scannable cells.now at end left }
     ensures { BodyTells (marks_to cells.now end) at left n result }
 {
     if left == 0 {
-        return Ran::Strays;
+        return None;
     }
-    let body = run_figures(cells, at, end, left - 1);
-    let Ran::To(once, next) = body else {
-        return Ran::Strays;
-    };
-    Ran::To(once.passes(n), next)
+    let once = run_figures(cells, at, end, left - 1)?;
+    Some(Ran {
+        figures: once.figures.passes(n),
+        next: once.next,
+    })
 }
 
-// The smaller of two places.
-fn smaller(x: usize, y: usize) -> usize
-    ensures { result ≡ min x y }
-{
-    if x < y { x } else { y }
-}
-
-// The larger of two stretches.
-fn larger(x: u32, y: u32) -> u32
-    ensures { result ≡ max x y }
-{
-    if x < y { y } else { x }
-}
-
-// One process, by the places of its first cell and after its last; places after the table have no cells.
-fn measure(cells: &Cells, from: usize, end: usize) -> Alone
+// The stretch of one process, by the places of its first cell and after its last, 4,097 standing for all over 4,096; none where its loops
+// do not nest. Places after the table have no cells.
+fn measure(cells: &Cells, from: usize, end: usize) -> Option<u32>
     ensures { result ≡ alone (marks_between cells.now from end) }
 {
-    let words: &[u32] = cells;
-    let behind = smaller(end, words.len());
-    let first = smaller(from, behind);
-    let run = run_figures(cells, first, behind, LOOPS);
-    match run {
-        Ran::To(all, _) => Alone::Nests(all.longest),
-        Ran::Strays => Alone::Strays,
-    }
-}
-
-// The place that a process ends at.
-fn place(end: u16) -> usize
-    ensures { result ≡ end }
-{
-    end as usize
+    let behind = end.min(cells.len());
+    let all = run_figures(cells, from.min(behind), behind, LOOPS)?;
+    Some(all.figures.longest)
 }
 
 // The first `count` processes, by the places after their last cells.
-fn measure_all<'a>(cells: &'a Cells, ends: &'a [u16], count: usize) -> Measured
+fn measure_all<'a>(cells: &'a Cells, ends: &'a [u16], count: usize) -> Result<u32, StretchFault>
     requires { length ends.now ≤ process_limit }
     ensures { result ≡ measured_from 1 0 (processes_from cells.now 0 (take count ends.now)) }
 {
-    let processes = smaller(count, ends.len());
     let mut best: u32 = 0;
     let mut from: usize = 0;
-    let mut number: u32 = 1;
-    let mut i: usize = 0;
-    while i < processes {
-        let end = place(ends[i]);
-        let one = measure(cells, from, end);
-        match one {
-            Alone::Nests(stretch) => {
-                if LIMIT < stretch {
-                    return Measured::Over(number);
-                }
-                best = larger(best, stretch);
-                from = end;
-                number += 1;
-                i += 1;
-            }
-            Alone::Strays => {
-                return Measured::Broken;
-            }
+    for (i, end) in ends[..count.min(ends.len())].iter().enumerate() {
+        let end = usize::from(*end);
+        let Some(stretch) = measure(cells, from, end) else {
+            return Err(StretchFault::Broken);
+        };
+        if LIMIT < stretch {
+            return Err(StretchFault::Over(i as u32 + 1));
         }
+        best = best.max(stretch);
+        from = end;
     }
-    Measured::Largest(best)
+    Ok(best)
 }
 
-/// The largest stretch of any process of a table.
-pub fn largest(cells: &Cells, heads: Heads) -> Measured
+/// The largest stretch of any process of a table; or why there is none.
+pub fn largest(cells: &Cells, heads: Heads) -> Result<u32, StretchFault>
     ensures value { result ≡ measured cells.now heads }
     ensures reported { Reported cells.now heads result }
 {
-    let ends = heads.ends;
-    measure_all(cells, &ends, heads.processes as usize)
+    measure_all(cells, &heads.ends, usize::from(heads.processes))
 }

@@ -1,49 +1,57 @@
 -- The loops over words: the state of each as a record, and one law for each way on. Assumes nothing.
 use Prim.Native.Nat.{ℕ, suc, ◌+◌, ◌-◌, ◌≤◌, ◌<◌}
 use mathlib.Core.Path.{◌≡◌, refl, sym, ap, ◌∙◌}
-use mathlib.Core.Bool.{Bool, true, false}
+use mathlib.Core.Bool.{Bool, true, false, cond, not, ◌&&◌}
+use Rattle.std.specs.Prelude.{take_while}
+use Rattle.std.specs.List.{prefix_len}
+use Rattle.std.proofs.Common.{one-add, reverse, min}
+use Rattle.std.proofs.lemmas.Grind.{reverse_onto}
+use Rattle.std.proofs.lemmas.List.{reverse-reverse, length-reverse}
 use mathlib.Core.List.{List, [], ◌∷◌, ◌++◌}
-use native.Mathlib.Numerals.{add-one}
 use native.Mathlib.Omega.{arith}
 use lib.Dec.{eqb}
-use lib.ListN.{length, take, drop, get_or, drop_of_length-le, length-drop}
-use lib.Seq.{drop-cons, take-suc, take-length, take-nil, take_all, length-take-le}
-use borrow.Author.Tests.{eq-eqb, ne_eqb}
+use lib.ListN.{length, take, drop, drop_of_length-le, length-drop, length-append, length-take}
+use lib.Seq.{take-nil, take_all}
+use borrow.Author.Tests.{ne_eqb}
+use lib.Pointwise.{pointwise}
+use native.Mathlib.Decide.{dec_le}
 use Rattle.reader.specs.Bytes.{is_blank, same}
-use Rattle.words.specs.Words.{blanks, word_length, before_end, trim_end, trimmed_end, is_named}
+use Rattle.words.specs.Words.{blanks, word_length, after_blanks, word_end, before_end, trim_end, trimmed_end, is_named}
 
--- ---- bytes of one kind counted off the front, up to the first of the other
+-- ---- what is counted off the front, up to the first byte that does not pass
 
-pub record Counts (on off : Bool) (f : List ℕ → ℕ) : Type 0 where
-  pub none : f [] ≡ 0
-  pub more : (b : ℕ) (l : List ℕ) → is_blank b ≡ on → f (b ∷ l) ≡ suc (f l)
-  pub stop : (b : ℕ) (l : List ℕ) → is_blank b ≡ off → f (b ∷ l) ≡ 0
-
-pub counts_blanks : Counts true false blanks
+pub blanks_taken : (l : List ℕ) → length (take_while is_blank l) ≡ blanks l
 unfolding blanks
-counts_blanks = record { none = refl; more = λ b l e. rw e; stop = λ b l e. rw e }
+blanks_taken [] = refl
+blanks_taken (b ∷ l) = go (is_blank b) (blanks_taken l)
+  where
+    go : (t : Bool) → length (take_while is_blank l) ≡ blanks l → length (take (cond t (1 + prefix_len is_blank l) 0) (b ∷ l)) ≡ cond t (suc (blanks l)) 0
+    go true e = rw one-add (ap suc e)
+    go false e = refl
 
-pub counts_word : Counts false true word_length
+pub word_taken : (l : List ℕ) → length (take_while (λ b. not (is_blank b)) l) ≡ word_length l
 unfolding word_length
-counts_word = record { none = refl; more = λ b l e. rw e; stop = λ b l e. rw e }
+word_taken [] = refl
+word_taken (b ∷ l) = go (is_blank b) (word_taken l)
+  where
+    go : (t : Bool) → length (take_while (λ c. not (is_blank c)) l) ≡ word_length l
+        → length (take (cond (not t) (1 + prefix_len (λ c. not (is_blank c)) l) 0) (b ∷ l)) ≡ cond t 0 (suc (word_length l))
+    go true e = refl
+    go false e = rw one-add (ap suc e)
 
--- the place that is looked for is the same, looked for from `i` on
-pub record Passing (f : List ℕ → ℕ) (s : List ℕ) (at i : ℕ) : Type 0 where
-  pub whole : at + f (drop at s) ≡ i + f (drop i s)
+-- no more is counted than there is
+pub counted_few : (p : ℕ → Bool) (l : List ℕ) → length (take_while p l) ≤ length l
+counted_few p l = omega (arith, length-take (prefix_len p l) l)
 
-module _ {on off : Bool} {f : List ℕ → ℕ} {s : List ℕ} {at i : ℕ} (k : Counts on off f) (w : Passing f s at i) where
-  pub at_end_lem : length s ≤ i → at + f (drop at s) ≡ i
-  at_end_lem h = omega (arith, w.whole, ap f (drop_of_length-le s h) ∙ k.none)
+-- at a place: `l` is the bytes from there on, and `n` what the code has counted off them
+module _ (s : List ℕ) (at : ℕ) {l : List ℕ} {n : ℕ} (rest : l ≡ drop at s) where
+  pub blanks_at : n ≡ length (take_while is_blank l) → at + n ≡ after_blanks s at
+  unfolding after_blanks
+  blanks_at e = ap (λ (k : ℕ). at + k) (e ∙ blanks_taken l ∙ ap blanks rest)
 
-  -- `t` is what the code has been told of the byte at `i`
-  module _ {t : Bool} (inside : i < length s) (told : t ≡ is_blank (get_or s i 0)) where
-    pub stopped : t ≡ off → at + f (drop at s) ≡ i
-    stopped e = omega (arith, w.whole, ap f (drop-cons s i 0 inside) ∙ k.stop _ _ (sym told ∙ e))
-
-    pub passed : t ≡ on → Passing f s at (i + 1)
-    passed e = record {
-      whole = rw (add-one i) (omega (arith, w.whole, ap f (drop-cons s i 0 inside) ∙ k.more _ _ (sym told ∙ e)));
-    }
+  pub word_at : n ≡ length (take_while (λ b. not (is_blank b)) l) → at + n ≡ word_end s at
+  unfolding word_end
+  word_at e = ap (λ (k : ℕ). at + k) (e ∙ word_taken l ∙ ap word_length rest)
 
 -- ---- blanks at the end
 
@@ -62,67 +70,32 @@ unfolding trim_end
 keep_last [] b e = unfold before_end in rw e
 keep_last (x ∷ l) b e = rw (keep_last l b e) (before_last x b l)
 
--- what is kept of the whole is what is kept of the bytes before `end`
-pub record Trimming (s : List ℕ) (end : ℕ) : Type 0 where
-  pub within : end ≤ length s
-  pub whole : trim_end s ≡ trim_end (take end s)
+-- the bytes read from the end: what is kept, and the blanks
+from_end : (r : List ℕ) → length (trim_end (reverse r)) + blanks r ≡ length r
+unfolding blanks trim_end
+from_end [] = refl
+from_end (b ∷ r) = rw (reverse_onto r b []) (go (is_blank b) refl (from_end r))
+  where
+    go : (t : Bool) → is_blank b ≡ t → length (trim_end (reverse r)) + blanks r ≡ length r
+        → length (trim_end (reverse r ++ b ∷ [])) + cond t (suc (blanks r)) 0 ≡ suc (length r)
+    go true e h = rw (trim_last (reverse r) b e) (omega (arith, h))
+    go false e h = rw (keep_last (reverse r) b e) (omega (arith, length-append (reverse r) (b ∷ []), length-reverse r))
 
-pub untrimmed : {s : List ℕ} → Trimming s (length s)
-untrimmed {s} = record { within = omega arith; whole = ap trim_end (sym (take-length s)) }
-
--- the last byte before `end`
-last : (s : List ℕ) (end : ℕ) → 0 < end → end ≤ length s → take end s ≡ take (end - 1) s ++ get_or s (end - 1) 0 ∷ []
-last s end h k =
-    let e : end ≡ suc (end - 1) = omega arith in
-    ap (λ (n : ℕ). take n s) e ∙ take-suc s (end - 1) 0 (omega arith)
-
-module _ {s : List ℕ} {end : ℕ} (w : Trimming s end) where
-  pub all_trimmed : end ≤ 0 → trimmed_end s ≡ end
-  unfolding trimmed_end trim_end
-  all_trimmed h =
-      let z : end ≡ 0 = omega arith in
-      ap length w.whole ∙ rw z
-
-  module _ {t : Bool} (some : 0 < end) (told : t ≡ is_blank (get_or s (end - 1) 0)) where
-    pub kept : t ≡ false → trimmed_end s ≡ end
-    unfolding trimmed_end
-    kept e =
-        ap length (w.whole ∙ ap trim_end (last s end some w.within) ∙ keep_last (take (end - 1) s) (get_or s (end - 1) 0) (sym told ∙ e) ∙ sym (last s end some w.within))
-        ∙ length-take-le end s w.within
-
-    pub trimmed : t ≡ true → Trimming s (end - 1)
-    trimmed e = record {
-      within = omega (arith, w.within);
-      whole = w.whole ∙ ap trim_end (last s end some w.within) ∙ trim_last (take (end - 1) s) (get_or s (end - 1) 0) (sym told ∙ e);
-    }
-
--- ---- two slices held against each other
-
-pub record Matching (a b : List ℕ) (i : ℕ) : Type 0 where
-  pub whole : same a b ≡ same (drop i a) (drop i b)
-
-module _ {a b : List ℕ} {i : ℕ} (m : Matching a b i) where
-  pub shorter : i < length a → length b ≤ i → same a b ≡ false
-  unfolding same
-  shorter h k = m.whole ∙ rw (drop-cons a i 0, drop_of_length-le b k)
-
-  pub differs : i < length a → i < length b → (get_or a i 0 ≡ get_or b i 0 → ⊥) → same a b ≡ false
-  unfolding same
-  differs h k n = m.whole ∙ rw (drop-cons a i 0, drop-cons b i 0) (simp (ne_eqb _ _ n))
-
-  pub alike : i < length a → i < length b → get_or a i 0 ≡ get_or b i 0 → Matching a b (i + 1)
-  unfolding same
-  alike h k n = record { whole = m.whole ∙ rw (add-one i, drop-cons a i 0, drop-cons b i 0) (simp (eq-eqb _ _ n)) }
-
-  pub longer : length a ≤ i → i < length b → same a b ≡ false
-  unfolding same
-  longer h k = m.whole ∙ rw (drop_of_length-le a h, drop-cons b i 0)
-
-  pub all_alike : length a ≤ i → length b ≤ i → same a b ≡ true
-  unfolding same
-  all_alike h k = m.whole ∙ rw (drop_of_length-le a h, drop_of_length-le b k)
+pub blanks_last : (s : List ℕ) → trimmed_end s + blanks (reverse s) ≡ length s
+unfolding trimmed_end
+blanks_last s =
+    let e : length (trim_end (reverse (reverse s))) ≡ length (trim_end s) = ap (λ (l : List ℕ). length (trim_end l)) (reverse-reverse s) in
+    omega (arith, e, from_end (reverse s), length-reverse s)
 
 -- ---- a name
+
+-- two slices are held against each other as `same` does
+pub held_same : (a b : List ℕ) → pointwise eqb a b ≡ same a b
+unfolding same
+held_same [] [] = refl
+held_same [] (c ∷ w) = refl
+held_same (b ∷ l) [] = refl
+held_same (b ∷ l) (c ∷ w) = ap (λ (t : Bool). eqb b c && t) (held_same l w)
 
 -- no bytes are the name of no bytes
 no_name : (name : List ℕ) → eqb (length name) 0 ≡ same [] name
@@ -130,20 +103,24 @@ unfolding same
 no_name [] = refl
 no_name (c ∷ name) = let p : suc (length name) ≡ 0 → ⊥ = omega arith in ne_eqb _ _ p
 
-module _ (s : List ℕ) (from to : ℕ) (name : List ℕ) where
-  pub behind : to ≤ from → eqb (length name) 0 ≡ is_named s from to name
-  unfolding is_named
-  behind h =
-      let e : to - from ≡ 0 = omega arith in
-      no_name name ∙ rw e
-
-  pub outside : length s ≤ from → eqb (length name) 0 ≡ is_named s from to name
-  unfolding is_named
-  outside h = no_name name ∙ rw (drop_of_length-le s h, take-nil {A = ℕ} (to - from))
-
-  pub to_the_end : length s ≤ to → same (take (length s - from) (drop from s)) name ≡ is_named s from to name
-  unfolding is_named
-  to_the_end h = rw (all_of (length s - from) (omega arith), all_of (to - from) (omega arith))
+module _ (s : List ℕ) (from to : ℕ) (name : List ℕ) {end : ℕ} (is : end ≡ min to (length s)) where
+  -- the bytes as far as there are any
+  pub to_the_end : take (end - from) (drop from s) ≡ take (to - from) (drop from s)
+  to_the_end = go (dec_le to (length s))
     where
       all_of : (n : ℕ) → length s - from ≤ n → take n (drop from s) ≡ drop from s
       all_of n k = take_all n (drop from s) (simp length-drop (omega arith))
+
+      go : Dec (to ≤ length s) → take (end - from) (drop from s) ≡ take (to - from) (drop from s)
+      go (yes h) = let e : end ≡ to = omega arith in rw e
+      go (no p) = all_of (end - from) (omega arith) ∙ sym (all_of (to - from) (omega arith))
+
+  pub nothing_there : end < from → eqb (length name) 0 ≡ is_named s from to name
+  unfolding is_named
+  nothing_there h = go (dec_le to from)
+    where
+      go : Dec (to ≤ from) → eqb (length name) 0 ≡ same (take (to - from) (drop from s)) name
+      go (yes k) = let e : to - from ≡ 0 = omega arith in no_name name ∙ rw e
+      go (no p) =
+          let o : length s ≤ from = omega arith in
+          no_name name ∙ rw (drop_of_length-le s o, take-nil {A = ℕ} (to - from))

@@ -6,9 +6,8 @@ use native.Mathlib.Nat.{pow-suc, mod-lt, mul_comm, mul_assoc, add-mul, div-add-m
 use native.Mathlib.Omega.{arith}
 use borrow.Author.Tests.{lt-ltb, le-ltb, le-leb}
 use Rattle.reader.specs.Bytes.{digit_of}
-use Rattle.numbers.specs.Number.{digits_ended, number_go, second_of, pair_of}
+use Rattle.numbers.specs.Number.{value_at, digits_ended, number_go, second_of, pair_of}
 use Rattle.writer.specs.Put.{fixed, width_of, decimal, two_digits}
-use Rattle.numbers.specs.declared.Number.TheVariants.{Value}
 use Rattle.reader.proofs.Digits.{digit_is}
 use Rattle.writer.proofs.Decimals.{ten_pos, first_digit, fits_width, decimal_length, decimal_some}
 
@@ -59,7 +58,7 @@ read_fixed most limit (suc k) m rest n v at h j l =
     ∙ rw (a, c, value)
 
 pub number_back : (most limit n : ℕ) (rest : List ℕ) (at : ℕ) → n ≤ limit → n < 10 ^ 10 → width_of n ≤ most → Stops rest
-    → number_go most limit (decimal n ++ rest) 0 0 at ≡ Value n (at + width_of n)
+    → number_go most limit (decimal n ++ rest) 0 0 at ≡ value_at n (at + width_of n)
 unfolding decimal digits_ended
 number_back most limit n rest at l b m s =
     let w : ℕ = width_of n in
@@ -72,7 +71,7 @@ number_back most limit n rest at l b m s =
 -- ---- values of two digits
 
 pub pair_back : (low high n : ℕ) (rest : List ℕ) (at : ℕ) → n < 100 → low ≤ n → n ≤ high
-    → pair_of low high (two_digits n ++ rest) at ≡ Value n (at + 2)
+    → pair_of low high (two_digits n ++ rest) at ≡ value_at n (at + 2)
 unfolding pair_of second_of two_digits
 pair_back low high n rest at h l u =
     let d : n / 10 < 10 = omega arith in

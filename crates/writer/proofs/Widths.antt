@@ -1,15 +1,15 @@
 -- The loops over decimal digits: how many there are, and how they are written. Assumes nothing.
 use Prim.Native.Nat.{ℕ, zero, suc, ◌+◌, ◌-◌, ◌*◌, ◌/◌, ◌%◌, ◌^◌, ◌≤◌, ◌<◌}
+use Rattle.std.specs.Prelude.{Some, None}
 use mathlib.Core.Path.{◌≡◌, refl, sym, ap, ◌∙◌}
 use mathlib.Core.List.{List}
-use native.Mathlib.Nat.{pow-suc, mul-div_cancel, mod-lt, mod-eq_of_lt}
+use native.Mathlib.Nat.{pow-suc, mul-div_cancel, mod-lt}
 use native.Mathlib.Omega.{arith}
 use lib.ListN.{length, set}
 use borrow.Author.Tests.{lt-ltb, le-ltb}
 use Rattle.writer.specs.Put.{fixed, width_go, width_of, decimal, put_answer, put_into}
-use Rattle.writer.specs.declared.Put.TheVariants.{Next, NoRoom}
-use Rattle.writer.proofs.Decimals.{ten_pos, ten_next, first_digit, fits_width, decimal_length}
-use Rattle.reader.proofs.Placing.{Placing, begun, renamed, fits, stored}
+use Rattle.writer.proofs.Decimals.{ten_pos, ten_next, fits_width, decimal_length}
+use Rattle.reader.proofs.Placing.{Placing, begun, renamed, stored}
 use Rattle.writer.proofs.Writing.{done, no_room}
 
 -- ---- the width of `n` is looked for among `w`, `w` + 1, .. 10; `p` is ten to the `w`
@@ -55,7 +55,7 @@ pub record Digiting (d₀ : List ℕ) (at : ℕ) (bs d : List ℕ) (p left m pla
   pub placing : Placing d₀ at bs d place (fixed left m)
 
 -- `k` and `p` are the width and its power of ten, as the code has found them
-pub no_digits : (d : List ℕ) (at n : ℕ) {k : ℕ} → k ≡ width_of n → length d < at + k → (NoRoom ≡ put_answer (decimal n) d at) × (d ≡ put_into (decimal n) d at)
+pub no_digits : (d : List ℕ) (at n : ℕ) {k : ℕ} → k ≡ width_of n → length d < at + k → (None ≡ put_answer (decimal n) d at) × (d ≡ put_into (decimal n) d at)
 no_digits d at n e h = no_room (decimal n) d at (omega (arith, decimal_length n))
 
 pub unplaced : {d : List ℕ} {at n k p : ℕ} → (k ≡ width_of n) × (p ≡ 10 ^ width_of n) → n < 10 ^ 10 → at + k ≤ length d
@@ -73,7 +73,7 @@ ten_back : (left : ℕ) → 10 ^ suc left / 10 ≡ 10 ^ left
 ten_back left = ap (λ (x : ℕ). x / 10) (pow-suc 10 left) ∙ mul-div_cancel (10 ^ left) (omega arith)
 
 module _ {d₀ : List ℕ} {at : ℕ} {bs d : List ℕ} {p m place : ℕ} where
-  pub all_placed : (left : ℕ) → Digiting d₀ at bs d p left m place → left ≤ 0 → (Next place ≡ put_answer bs d₀ at) × (d ≡ put_into bs d₀ at)
+  pub all_placed : (left : ℕ) → Digiting d₀ at bs d p left m place → left ≤ 0 → (Some place ≡ put_answer bs d₀ at) × (d ≡ put_into bs d₀ at)
   unfolding fixed
   all_placed zero w h = done w.placing
   all_placed (suc left) w h = absurd (omega arith)
@@ -82,16 +82,11 @@ module _ {d₀ : List ℕ} {at : ℕ} {bs d : List ℕ} {p m place : ℕ} where
   power_left zero w h = absurd (omega arith)
   power_left (suc left) w h = rw (w.power, ten_back left) (ten_pos left)
 
-  pub digit_fits : (left : ℕ) → Digiting d₀ at bs d p left m place → 0 < left → place < length d
+  -- `rest` is one fewer
+  pub digit_placed : (left rest : ℕ) → Digiting d₀ at bs d p left m place → left ≡ suc rest
+      → Digiting d₀ at bs (set d place (48 + m / (p / 10))) (p / 10) rest (m % (p / 10)) (place + 1)
   unfolding fixed
-  digit_fits zero w h = absurd (omega arith)
-  digit_fits (suc left) w h = fits w.placing
-
-  pub digit_placed : (left : ℕ) → Digiting d₀ at bs d p left m place → 0 < left
-      → Digiting d₀ at bs (set d place (48 + m / (p / 10) % 10)) (p / 10) (left - 1) (m % (p / 10)) (place + 1)
-  unfolding fixed
-  digit_placed zero w h = absurd (omega arith)
-  digit_placed (suc left) w h =
-      let e : suc left - 1 ≡ left = omega arith in
-      rw (e, w.power, ten_back left, mod-eq_of_lt (first_digit left m w.below))
-      (record { power = refl; below = mod-lt m (ten_pos left); placing = stored w.placing })
+  digit_placed zero rest w h = absurd (omega arith)
+  digit_placed (suc left) rest w h =
+      let e : rest ≡ left = omega arith in
+      rw (e, w.power, ten_back left) (record { power = refl; below = mod-lt m (ten_pos left); placing = stored w.placing })

@@ -1,12 +1,10 @@
 -- What the writers write: bytes put into a lent slice from a place on, all of them or none.
-use Rattle.std.specs.Prelude.{ℕ, zero, suc, ◌+◌, ◌/◌, ◌%◌, ◌^◌, cond, List, [], ◌∷◌, length, ltb, leb}
+use Rattle.std.specs.Prelude.{ℕ, zero, suc, ◌+◌, ◌/◌, ◌%◌, ◌^◌, cond, List, [], ◌∷◌, length, ltb, leb, Option, Some, None}
 use Rattle.std.proofs.lemmas.List.Edits.{sets}
-use Rattle.writer.specs.declared.Put.{Put}
-use Rattle.writer.specs.declared.Put.TheVariants.{Next, NoRoom}
 
 -- bytes put into `d` from `at` on: the place after them, or that there is no room; and what `d` then holds
-unfoldable pub put_answer : List ℕ → List ℕ → ℕ → Put
-put_answer bs d at = cond (leb (at + length bs) (length d)) (Next (at + length bs)) NoRoom
+unfoldable pub put_answer : List ℕ → List ℕ → ℕ → Option ℕ
+put_answer bs d at = cond (leb (at + length bs) (length d)) (Some (at + length bs)) None
 
 -- what the slice holds after it: nothing is altered where there is no room
 unfoldable pub put_into : List ℕ → List ℕ → ℕ → List ℕ

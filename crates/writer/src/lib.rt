@@ -1,4 +1,5 @@
-// Bytes, decimal numbers and hex data written into a lent slice from a place on, all of it or nothing.
+// Bytes, decimal numbers and hex data written into a lent slice from a place on, all of it or nothing: the place
+// after what was written, or None where there is no room.
 #![tactic(auto)]
 
 ghost use Rattle.std.specs.Prelude.{◌%◌, ◌^◌, ◌≡◌, ◌∷◌, []};
@@ -7,37 +8,25 @@ ghost use Rattle.writer.specs.Put.{width_of, decimal, two_digits, put_answer, pu
 
 use reader::has_room;
 
-// The place after what was written, or that there is no room.
-#[derive(Clone, Copy)]
-pub enum Put {
-    Next(usize),
-    NoRoom,
-}
-
 // Writes bytes.
-pub fn put_bytes(dst: &mut [u8], at: usize, bytes: &[u8]) -> Put
+pub fn put_bytes(dst: &mut [u8], at: usize, bytes: &[u8]) -> Option<usize>
     ensures { (result ≡ put_answer bytes.now dst.old at)
         × (dst.new ≡ put_into bytes.now dst.old at) }
 {
     if !has_room(dst.len(), at, bytes.len()) {
-        return Put::NoRoom;
+        return None;
     }
-    let mut place = at;
-    let mut i = 0usize;
-    while i < bytes.len() {
-        dst[place] = bytes[i];
-        place += 1;
-        i += 1;
-    }
-    Put::Next(place)
+    let end = at + bytes.len();
+    dst[at..end].copy_from_slice(bytes);
+    Some(end)
 }
 
 // Writes a number below 100 in two digits.
-pub fn put_two_digits(dst: &mut [u8], at: usize, n: u8) -> Put
+pub fn put_two_digits(dst: &mut [u8], at: usize, n: u8) -> Option<usize>
     ensures { (result ≡ put_answer (two_digits n) dst.old at)
         × (dst.new ≡ put_into (two_digits n) dst.old at) }
 {
-    let digits = [48 + n / 10, 48 + n % 10];
+    let digits = [b'0' + n / 10, b'0' + n % 10];
     put_bytes(dst, at, &digits)
 }
 
@@ -46,42 +35,32 @@ pub fn capital_digit(b: u8) -> u8
     ensures { result ≡ capital (b % 16) }
 {
     let d = b % 16;
-    if d < 10 {
-        return 48 + d;
-    }
-    55 + d
+    if d < 10 { b'0' + d } else { b'A' - 10 + d }
 }
 
 // Writes bytes as hex data, two capital digits for each and nothing between.
-pub fn put_hex(dst: &mut [u8], at: usize, bytes: &[u8]) -> Put
+pub fn put_hex(dst: &mut [u8], at: usize, bytes: &[u8]) -> Option<usize>
     ensures { (result ≡ put_answer (hex_text bytes.now) dst.old at)
         × (dst.new ≡ put_into (hex_text bytes.now) dst.old at) }
 {
-    if dst.len() < at {
-        return Put::NoRoom;
-    }
-    if (dst.len() - at) / 2 < bytes.len() {
-        return Put::NoRoom;
+    if dst.len() < at || (dst.len() - at) / 2 < bytes.len() {
+        return None;
     }
     let mut place = at;
-    let mut i = 0usize;
-    while i < bytes.len() {
-        let b = bytes[i];
-        dst[place] = capital_digit(b / 16);
-        dst[place + 1] = capital_digit(b);
+    for b in bytes {
+        dst[place] = capital_digit(*b / 16);
+        dst[place + 1] = capital_digit(*b);
         place += 2;
-        i += 1;
     }
-    Put::Next(place)
+    Some(place)
 }
 
 // Writes one byte as two capital hex digits.
-pub fn put_hex_digits(dst: &mut [u8], at: usize, b: u8) -> Put
+pub fn put_hex_digits(dst: &mut [u8], at: usize, b: u8) -> Option<usize>
     ensures { (result ≡ put_answer (hex_text (b ∷ [])) dst.old at)
         × (dst.new ≡ put_into (hex_text (b ∷ [])) dst.old at) }
 {
-    let one = [b];
-    put_hex(dst, at, &one)
+    put_hex(dst, at, &[b])
 }
 
 // How many digits a number has, and ten to that many.
@@ -95,38 +74,31 @@ struct Digits {
 fn width(n: u32) -> Digits
     ensures { (result.count ≡ width_of n) × (result.power ≡ 10 ^ width_of n) }
 {
-    let m = n as u64;
-    let mut w = 1usize;
-    let mut p = 10u64;
-    while w < 10 {
-        if m < p {
-            return Digits { count: w, power: p };
+    let mut power = 10;
+    for count in 1..10 {
+        if u64::from(n) < power {
+            return Digits { count, power };
         }
-        p = p * 10;
-        w += 1;
+        power *= 10;
     }
-    Digits { count: w, power: p }
+    Digits { count: 10, power }
 }
 
 // Writes a number in decimal digits, with no leading zero.
-pub fn put_decimal(dst: &mut [u8], at: usize, n: u32) -> Put
+pub fn put_decimal(dst: &mut [u8], at: usize, n: u32) -> Option<usize>
     ensures { (result ≡ put_answer (decimal n) dst.old at)
         × (dst.new ≡ put_into (decimal n) dst.old at) }
 {
-    let all = width(n);
-    let mut left = all.count;
-    let mut p = all.power;
-    if !has_room(dst.len(), at, left) {
-        return Put::NoRoom;
+    let Digits { count, mut power } = width(n);
+    if !has_room(dst.len(), at, count) {
+        return None;
     }
-    let mut m = n as u64;
-    let mut place = at;
-    while 0 < left {
-        p = p / 10;
-        left -= 1;
-        dst[place] = 48 + ((m / p) % 10) as u8;
-        m = m % p;
-        place += 1;
+    let end = at + count;
+    let mut left = u64::from(n);
+    for place in at..end {
+        power /= 10;
+        dst[place] = b'0' + (left / power) as u8;
+        left %= power;
     }
-    Put::Next(place)
+    Some(end)
 }

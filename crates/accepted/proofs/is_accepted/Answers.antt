@@ -1,18 +1,21 @@
 -- `accepted::is_accepted` meets its contract: the tests decide. Assumes nothing.
-use mathlib.Core.Path.{refl}
+use mathlib.Core.Path.{sym, ◌∙◌}
+use mathlib.Core.Bool.{true≢false}
 use mir.Syntax.{w8}
 use mir.Val.{Fits}
 use lib.ListN.{get_or}
+use borrow.Author.Tests.{leb-true, leb-false}
+use Rattle.language.specs.Limits.{lines_limit}
 use Rattle.language.proofs.Bytes.{are_bytes}
 use Rattle.accepted.proofs.Laying.{Typed}
 use Rattle.accepted.proofs.Passing.{Bytes}
 use Rattle.accepted.proofs.Accepting.{in_use_is, some_process, in_use_few, not_ends, not_cells, not_settings, not_lines, as_measured}
 use borrow.Author.Rules.{rules}
 use Rattle.accepted.proofs.is_accepted.Goals as goal
-use Rattle.accepted.proofs.is_accepted.Goals.{After-bytes-1, Start}
+use Rattle.accepted.proofs.is_accepted.Goals.{Start, then-cells_right, else-cells_right, then-settings_fit, else-settings_fit}
 
 -- the table that is lent has the values of its types
-typed : (b : After-bytes-1) → Typed (record { cells = b.args.cells.now; pool = b.args.pool.now; heads = b.args.heads })
+typed : (b : Start) → Typed (record { cells = b.args.cells.now; pool = b.args.pool.now; heads = b.args.heads })
 typed b = record { cells = search rules; pool = search rules; ends = search rules; omit = search rules; extension = search rules }
 
 bytes : (s : Start) → Bytes s.args.heads
@@ -20,49 +23,42 @@ bytes s = record { encode = search rules; omit = are_bytes s.args.heads.omit (λ
 
 pub lines-requires : goal.lines-requires
 lines-requires c =
-    let e = c.cells_in_use-reach.ensures in
-    let to = c.in-To.is in
+    let e = c.cells_in_use.ensures in
+    let to = c.in-Some.is in
     (some_process _ e to, in_use_is _ e to, in_use_few _ e to)
 
-pub returns-in-Largest : goal.returns-in-Largest
-returns-in-Largest c =
-    as_measured _ (typed (goal.at.returns-in-Largest c).After-bytes-1) (bytes (goal.at.returns-in-Largest c).Start) c.cells_in_use-reach.ensures
-    c.in-To.is c.cells_right.ensures c.if-cells_right.true
-    c.settings_fit.ensures c.if-settings_fit.true c.lines.ensures
-    c.if-lines-le-LINES.true c.largest-measured.ensures.value c.in-Largest.is refl
+pub returns-in_default : goal.returns-in_default
+returns-in_default c =
+    let s = (goal.at.returns-in_default c).Start in
+    not_ends _ (typed s) (bytes s) c.cells_in_use.ensures c.in_default.is
 
-pub returns-in-Over : goal.returns-in-Over
-returns-in-Over c =
-    as_measured _ (typed (goal.at.returns-in-Over c).After-bytes-1) (bytes (goal.at.returns-in-Over c).Start) c.cells_in_use-reach.ensures
-    c.in-To.is c.cells_right.ensures c.if-cells_right.true
-    c.settings_fit.ensures c.if-settings_fit.true c.lines.ensures
-    c.if-lines-le-LINES.true c.largest-measured.ensures.value c.in-Over.is refl
-
-pub returns-in-Broken : goal.returns-in-Broken
-returns-in-Broken c =
-    as_measured _ (typed (goal.at.returns-in-Broken c).After-bytes-1) (bytes (goal.at.returns-in-Broken c).Start) c.cells_in_use-reach.ensures
-    c.in-To.is c.cells_right.ensures c.if-cells_right.true
-    c.settings_fit.ensures c.if-settings_fit.true c.lines.ensures
-    c.if-lines-le-LINES.true c.largest-measured.ensures.value c.in-Broken.is refl
+pub returns-then-lines-le-LINES : goal.returns-then-lines-le-LINES
+returns-then-lines-le-LINES c =
+    let s = (goal.at.returns-then-lines-le-LINES c).Start in
+    elim c.if-settings_fit.branch [
+      | then-settings_fit w ↦ elim c.if-cells_right.branch [
+        | then-cells_right v ↦
+            as_measured _ (typed s) (bytes s) c.cells_in_use.ensures c.in-Some.is (rw c.from.ensures at c.cells_right.ensures) v.if-cells_right.true
+            v.settings_fit.ensures (sym v.value-is ∙ w.if-settings_fit.true) w.lines.ensures
+            (leb-true w.lines.result lines_limit (sym w.value-is ∙ c.if-lines-le-LINES.true)) c.largest.ensures.value c.is_ok.ensures.value
+        | else-cells_right v ↦ absurd (true≢false (sym w.if-settings_fit.true ∙ (v.value-is ∙ v.if-cells_right.false)))
+      ]
+      | else-settings_fit w ↦ absurd (true≢false (sym c.if-lines-le-LINES.true ∙ (w.value-is ∙ w.if-settings_fit.false)))
+    ]
 
 pub returns-else-lines-le-LINES : goal.returns-else-lines-le-LINES
 returns-else-lines-le-LINES c =
-    not_lines _ (typed (goal.at.returns-else-lines-le-LINES c).After-bytes-1) (bytes (goal.at.returns-else-lines-le-LINES c).Start) c.cells_in_use-reach.ensures
-    c.in-To.is c.cells_right.ensures c.if-cells_right.true
-    c.settings_fit.ensures c.if-settings_fit.true c.lines.ensures c.if-lines-le-LINES.false
-
-pub returns-else-settings_fit : goal.returns-else-settings_fit
-returns-else-settings_fit c =
-    not_settings _ (typed (goal.at.returns-else-settings_fit c).After-bytes-1) (bytes (goal.at.returns-else-settings_fit c).Start) c.cells_in_use-reach.ensures
-    c.in-To.is c.cells_right.ensures
-    c.if-cells_right.true c.settings_fit.ensures c.if-settings_fit.false
-
-pub returns-else-cells_right : goal.returns-else-cells_right
-returns-else-cells_right c =
-    not_cells _ (typed (goal.at.returns-else-cells_right c).After-bytes-1) (bytes (goal.at.returns-else-cells_right c).Start) c.cells_in_use-reach.ensures
-    c.in-To.is c.cells_right.ensures c.if-cells_right.false
-
-pub returns-in-Not : goal.returns-in-Not
-returns-in-Not c =
-    not_ends _ (typed (goal.at.returns-in-Not c).After-bytes-1) (bytes (goal.at.returns-in-Not c).Start) c.cells_in_use-reach.ensures
-    c.in-Not.is
+    let s = (goal.at.returns-else-lines-le-LINES c).Start in
+    c.if-lines-le-LINES.false
+    ∙ elim c.if-cells_right.branch [
+      | then-cells_right v ↦ elim c.if-settings_fit.branch [
+        | then-settings_fit w ↦
+            not_lines _ (typed s) (bytes s) c.cells_in_use.ensures c.in-Some.is (rw c.from.ensures at c.cells_right.ensures) v.if-cells_right.true
+            v.settings_fit.ensures (sym v.value-is ∙ w.if-settings_fit.true) w.lines.ensures
+            (leb-false w.lines.result lines_limit (sym w.value-is ∙ c.if-lines-le-LINES.false))
+        | else-settings_fit w ↦
+            not_settings _ (typed s) (bytes s) c.cells_in_use.ensures c.in-Some.is (rw c.from.ensures at c.cells_right.ensures) v.if-cells_right.true
+            v.settings_fit.ensures (sym v.value-is ∙ w.if-settings_fit.false)
+      ]
+      | else-cells_right v ↦ not_cells _ (typed s) (bytes s) c.cells_in_use.ensures c.in-Some.is (rw c.from.ensures at c.cells_right.ensures) v.if-cells_right.false
+    ]

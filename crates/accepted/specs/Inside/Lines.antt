@@ -1,8 +1,8 @@
 -- The same test as the code goes through it: one pass over the cells in use, and the heads.
-use Rattle.std.specs.Prelude.{ℕ, ◌+◌, ◌-◌, Bool, ◌&&◌, List, leb}
+use Rattle.std.specs.Prelude.{ℕ, ◌+◌, ◌-◌, Bool, ◌&&◌, List, leb, is_ok}
 use Rattle.language.specs.declared.Heads.{Heads}
 use Rattle.language.specs.Limits.{lines_limit}
-use Rattle.stretch.specs.Inside.Measured.{measured, is_largest}
+use Rattle.stretch.specs.Inside.Measured.{measured}
 use Rattle.accepted.specs.Inside.Heads.{in_use, ends_right, settings_fit, count_if, first_empty, settings_in}
 use Rattle.accepted.specs.Inside.Cells.{cells_fit}
 
@@ -20,4 +20,4 @@ fits cells pool h = ends_right h && (cells_right cells pool h && (settings_fit h
 
 -- and the nesting and the stretch
 unfoldable pub table_passes : List ℕ → List ℕ → Heads → Bool
-table_passes cells pool h = fits cells pool h && is_largest (measured cells h)
+table_passes cells pool h = fits cells pool h && is_ok (measured cells h)

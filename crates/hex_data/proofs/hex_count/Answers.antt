@@ -1,32 +1,18 @@
 -- `hex_count` meets its contract: each turn of the loop is a law on its state, `Counting`. Assumes nothing.
-use mathlib.Core.Path.{sym, ◌∙◌}
-use native.Mathlib.Omega.{arith}
-use Rattle.hex_data.proofs.Stepping.{uncounted, odd_end, even_end, refused, skipped, paired, one_more}
+use mathlib.Core.Path.{◌≡◌, ◌∙◌}
+use Rattle.std.proofs.Common.{rules, ℕ}
+use Rattle.std.specs.Prelude.{Err, Result}
+use Rattle.hex_data.proofs.Next.{told_byte, told_end}
+use Rattle.hex_data.proofs.Stepping.{all_counted, refused, one_more}
 use Rattle.hex_data.proofs.hex_count.Goals as goal
 
-pub loop-i-init : goal.loop-i-init
-loop-i-init c = uncounted
+pub returns-in_err-byte : goal.returns-in_err-byte
+returns-in_err-byte c =
+    let e : ◌≡◌ {A = Result ℕ ℕ} c.from_residual.result (Err c.in_err-byte.field-0.0) = search rules in
+    e ∙ refused c.loop-byte.invariant c.in_err-byte.ensures
 
-pub returns-in-Refuse : goal.returns-in-Refuse
-returns-in-Refuse c = sym (refused c.loop-i.invariant (omega arith) (sym c.in-Refuse.is ∙ c.hex_step.ensures))
-
-pub loop-i-preserved-in-Skip : goal.loop-i-preserved-in-Skip
-loop-i-preserved-in-Skip c = skipped c.loop-i.invariant (omega arith) (sym c.in-Skip.is ∙ c.hex_step.ensures)
-
-pub loop-i-preserved-in-First : goal.loop-i-preserved-in-First
-loop-i-preserved-in-First c = paired c.loop-i.invariant (omega arith) (sym c.in-First.is ∙ c.hex_step.ensures)
-
-pub loop-i-preserved : goal.loop-i-preserved
-loop-i-preserved c = one_more c.loop-i.invariant (omega arith) (sym c.in-Whole.is ∙ c.hex_step.ensures)
-
-pub overflow_add-result : goal.overflow_add-result
-overflow_add-result c =
-    let w = c.loop-i.invariant in
-    let h = w.digit (omega arith) in
-    omega arith
-
-pub returns-then-half-lt16 : goal.returns-then-half-lt16
-returns-then-half-lt16 c = sym (odd_end c.loop-i.invariant (omega arith) (omega arith))
+pub loop-byte-preserved : goal.loop-byte-preserved
+loop-byte-preserved c = one_more c.loop-byte.invariant (told_byte _ _ c.in_ok-byte.ensures c.in-Some.is)
 
 pub returns : goal.returns
-returns c = sym (even_end c.loop-i.invariant (omega arith) (omega arith))
+returns c = all_counted c.loop-byte.invariant (told_end _ _ c.in_ok-byte.ensures c.in_default.is)

@@ -4,8 +4,8 @@ use lib.ListN.{length}
 use Rattle.hex_data.proofs.Stepping.{Counting}
 use Rattle.hex_data.proofs.hex_count.Given as goal
 
-abbrev pub invariant-loop-i : goal.invariant-loop-i
-invariant-loop-i l = Counting l.s l.at l.n l.half l.i
+abbrev pub invariant-loop-byte : goal.invariant-loop-byte
+invariant-loop-byte l = Counting l.s l.at l.n l.from
 
-abbrev pub decreases-loop-i : goal.decreases-loop-i
-decreases-loop-i l = length l.s - l.i
+abbrev pub decreases-loop-byte : goal.decreases-loop-byte
+decreases-loop-byte l = length l.s - l.from

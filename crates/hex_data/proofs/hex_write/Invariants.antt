@@ -6,8 +6,8 @@ use Rattle.hex_data.specs.Inside.Said.{said_bytes}
 use Rattle.hex_data.proofs.Stepping.{Writing}
 use Rattle.hex_data.proofs.hex_write.Given as goal
 
-abbrev pub invariant-loop-i : goal.invariant-loop-i
-invariant-loop-i l = Writing l.s l.initial.dst l.to (said_bytes (hex_at l.s l.at)) l.dst l.place l.half l.i
+abbrev pub invariant-loop-byte : goal.invariant-loop-byte
+invariant-loop-byte l = Writing l.s l.initial.dst l.to (said_bytes (hex_at l.s l.at)) l.dst l.place l.from
 
-abbrev pub decreases-loop-i : goal.decreases-loop-i
-decreases-loop-i l = length l.s - l.i
+abbrev pub decreases-loop-byte : goal.decreases-loop-byte
+decreases-loop-byte l = length l.s - l.from

@@ -1,10 +1,10 @@
 -- A name with nothing after it, as a line is told.
-use Rattle.std.specs.Prelude.{ℕ, cond, List}
+use Rattle.std.specs.Prelude.{ℕ, cond, List, Result, Ok, Err}
 use Rattle.reader.specs.Bytes.{all, same, is_blank}
+use Rattle.language.specs.declared.TextFault.{TextFault}
 use Rattle.language.specs.declared.TextFault.TheVariants.{NoSuchName, BadRest}
 use Rattle.line_values.specs.declared.Line.{Line}
-use Rattle.line_values.specs.declared.Line.TheVariants.{Faulty}
 
 -- a name with nothing after it
-unfoldable pub bare_line : List ℕ → List ℕ → List ℕ → Line → Line
-bare_line word name rest told = cond (same word name) (cond (all is_blank rest) told (Faulty BadRest)) (Faulty NoSuchName)
+unfoldable pub bare_line : List ℕ → List ℕ → List ℕ → Line → Result Line TextFault
+bare_line word name rest told = cond (same word name) (cond (all is_blank rest) (Ok told) (Err BadRest)) (Err NoSuchName)

@@ -1,8 +1,10 @@
 -- A number with nothing after it.
-use Rattle.std.specs.Prelude.{ℕ, cond, List, eqb, length}
-use Rattle.numbers.specs.declared.Number.{Number}
+use Rattle.std.specs.Prelude.{ℕ, cond, List, eqb, length, Result, Ok, Err}
+use Rattle.numbers.specs.Number.{NumberRead}
+use Rattle.language.specs.declared.TextFault.{TextFault}
+use Rattle.language.specs.declared.TextFault.TheVariants.{BadRest}
 
 -- a number with nothing after it
-unfoldable pub whole : List ℕ → Number → Number
-whole a (Number.Value v next) = cond (eqb next (length a)) (Number.Value v next) (Number.Bad next)
-whole a (Number.Bad at) = Number.Bad at
+unfoldable pub whole : List ℕ → NumberRead → Result ℕ TextFault
+whole a (Ok n) = cond (eqb n.next (length a)) (Ok n.value) (Err BadRest)
+whole a (Err at) = Err BadRest

@@ -13,24 +13,24 @@ table s = record { cells = s.args.cells.now; pool = s.args.pool.now; heads = s.a
 pub listing_fits-requires : goal.listing_fits-requires
 listing_fits-requires c =
     let t = table (goal.at.listing_fits-requires c).Start in
-    let right = sym c.is_accepted.ensures ∙ c.if-is_accepted.true in
+    let right = sym c.is_accepted.ensures ∙ c.if-not-is_accepted.false in
     (omits_few t right, listing_room t right)
 
-pub whole-count-requires : goal.whole-count-requires
-whole-count-requires c =
-    let t = table (goal.at.whole-count-requires c).Start in
-    let right = sym c.is_accepted.ensures ∙ c.if-is_accepted.true in
+pub whole-requires : goal.whole-requires
+whole-requires c =
+    let t = table (goal.at.whole-requires c).Start in
+    let right = sym c.is_accepted.ensures ∙ c.if-not-is_accepted.false in
     (omits_few t right, listing_room t right)
 
-pub returns-then-listing_fits : goal.returns-then-listing_fits
-returns-then-listing_fits c =
-    wrote (table (goal.at.returns-then-listing_fits c).Start) _ c.is_accepted.ensures c.if-is_accepted.true
-    c.listing_fits.ensures c.if-listing_fits.true c.whole-count.ensures
+pub returns-then-not-is_accepted : goal.returns-then-not-is_accepted
+returns-then-not-is_accepted c = bad_table (table (goal.at.returns-then-not-is_accepted c).Start) _ c.is_accepted.ensures c.if-not-is_accepted.true
 
-pub returns-then-is_accepted : goal.returns-then-is_accepted
-returns-then-is_accepted c =
-    no_room (table (goal.at.returns-then-is_accepted c).Start) _ c.is_accepted.ensures c.if-is_accepted.true
-    c.listing_fits.ensures c.if-listing_fits.false
+pub returns-then-not-listing_fits : goal.returns-then-not-listing_fits
+returns-then-not-listing_fits c =
+    no_room (table (goal.at.returns-then-not-listing_fits c).Start) _ c.is_accepted.ensures c.if-not-is_accepted.false
+    c.listing_fits.ensures c.if-not-listing_fits.true
 
 pub returns : goal.returns
-returns c = bad_table (table (goal.at.returns c).Start) _ c.is_accepted.ensures c.if-is_accepted.false
+returns c =
+    wrote (table (goal.at.returns c).Start) _ c.is_accepted.ensures c.if-not-is_accepted.false
+    c.listing_fits.ensures c.if-not-listing_fits.false c.whole.ensures

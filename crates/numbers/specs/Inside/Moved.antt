@@ -1,9 +1,8 @@
 -- The same answer from another place.
-use Rattle.std.specs.Prelude.{ℕ, ◌+◌}
-use Rattle.numbers.specs.declared.Number.{Number}
-use Rattle.numbers.specs.declared.Number.TheVariants.{Value, Bad}
+use Rattle.std.specs.Prelude.{ℕ, ◌+◌, Ok, Err}
+use Rattle.numbers.specs.Number.{NumberRead, value_at}
 
 -- ---- the same answer, its place moved on by `k`
-unfoldable pub moved_on : ℕ → Number → Number
-moved_on k (Value v at) = Value v (k + at)
-moved_on k (Bad at) = Bad (k + at)
+unfoldable pub moved_on : ℕ → NumberRead → NumberRead
+moved_on k (Ok n) = value_at n.value (k + n.next)
+moved_on k (Err at) = Err (k + at)

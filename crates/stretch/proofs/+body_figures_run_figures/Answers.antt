@@ -15,22 +15,18 @@ use Rattle.stretch.proofs.+body_figures_run_figures.Goals.{run_figures-After-rol
 pub body_figures-returns-then-left-eq0 : goal.body_figures-returns-then-left-eq0
 body_figures-returns-then-left-eq0 t c = nests_ninth _ _ _ (omega arith)
 
-pub body_figures-run_figures-body-requires : goal.body_figures-run_figures-body-requires
-body_figures-run_figures-body-requires t c =
-    (omega (arith, c.decreases), record { order = c.requires.order; inside = c.requires.inside; few = omega arith })
-
 -- one loop more is open in a body
 deeper : (left : ℕ) → (left ≡ 0 → ⊥) → left ≤ deepest → opened (left - 1) ≡ opened left + 1
 deeper left h few = omega arith
 
-pub body_figures-returns-in_default : goal.body_figures-returns-in_default
-body_figures-returns-in_default t c =
-    nests_enters _ _ (omega arith) _ ∙ (rw (c.in_default.is, deeper _ c.if-left-eq0.false c.requires.few) at c.run_figures-body.ensures)
+pub body_figures-returns-in_err-once : goal.body_figures-returns-in_err-once
+body_figures-returns-in_err-once t c =
+    rw c.from_residual.ensures (nests_enters _ _ (omega arith) _ ∙ (rw (c.in_err-once.was, deeper _ c.if-left-eq0.false c.requires.few) at c.run_figures.ensures))
 
 pub body_figures-returns : goal.body_figures-returns
 body_figures-returns t c =
     rw c.passes.ensures
-    (scan_passes _ _ (omega arith) (rw (c.in-To.is, deeper _ c.if-left-eq0.false c.requires.few) at c.run_figures-body.ensures))
+    (scan_passes _ _ (omega arith) (rw (c.in_ok-once.was, deeper _ c.if-left-eq0.false c.requires.few) at c.run_figures.ensures))
 
 pub run_figures-loop-i-init : goal.run_figures-loop-i-init
 run_figures-loop-i-init t c =
@@ -53,20 +49,16 @@ run_figures-loop-i-preserved-in-SureRest t c =
     rw (c.join-sum-in-SureRest.ensures, c.sure_rest.ensures)
     (scan_rest _ _ _ _ _ c.loop-i.invariant (read t (goal.at.run_figures-loop-i-preserved-in-SureRest t c).After-role_of-role SureRest c.in-SureRest.is))
 
-pub run_figures-body_figures-body-requires : goal.run_figures-body_figures-body-requires
-run_figures-body_figures-body-requires t c =
-    (omega (arith, c.decreases), record { order = omega arith; inside = c.requires.inside; few = c.requires.few })
-
-pub run_figures-returns-in_default : goal.run_figures-returns-in_default
-run_figures-returns-in_default t c =
-    let s = read t (goal.at.run_figures-returns-in_default t c).After-role_of-role (Loop c.in-Loop.n) c.in-Loop.is in
-    scan_strays _ _ _ _ _ c.loop-i.invariant _ s (rw c.in_default.is at c.body_figures-body.ensures)
+pub run_figures-returns-in_err-passes-in-Loop : goal.run_figures-returns-in_err-passes-in-Loop
+run_figures-returns-in_err-passes-in-Loop t c =
+    let s = read t (goal.at.run_figures-returns-in_err-passes-in-Loop t c).After-role_of-role (Loop c.in-Loop.n) c.in-Loop.is in
+    rw c.from_residual.ensures (scan_strays _ _ _ _ _ c.loop-i.invariant _ s (rw c.in_err-passes-in-Loop.was at c.body_figures.ensures))
 
 pub run_figures-loop-i-preserved : goal.run_figures-loop-i-preserved
 run_figures-loop-i-preserved t c =
     let s = read t (goal.at.run_figures-loop-i-preserved t c).After-role_of-role (Loop c.in-Loop.n) c.in-Loop.is in
     rw (c.join-sum-in-Loop.ensures, c.join-entered.ensures, c.plain-in-Loop.ensures)
-    (scan_opens _ _ _ _ _ c.loop-i.invariant _ s _ _ (rw c.in-To.is at c.body_figures-body.ensures))
+    (scan_opens _ _ _ _ _ c.loop-i.invariant _ s _ _ (rw c.in_ok-passes-in-Loop.was at c.body_figures.ensures))
 
 pub run_figures-returns-then-left-lt-LOOPS : goal.run_figures-returns-then-left-lt-LOOPS
 run_figures-returns-then-left-lt-LOOPS t c =

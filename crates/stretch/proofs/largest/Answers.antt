@@ -9,5 +9,5 @@ pub returns : goal.returns
 unfolding processes_of
 returns c =
     let a = c.args in
-    let e : c.measure_all.result ≡ measured a.cells.now a.heads = c.measure_all.ensures in
+    let e : c.measure_all.result ≡ measured a.cells.now a.heads = rw c.from.ensures at c.measure_all.ensures in
     record { value = e; reported = rw e (measured_reported a.cells.now a.heads) }

@@ -1,6 +1,7 @@
 -- `role_of` meets its contract, cell by cell. Assumes nothing.
 use mathlib.Core.Path.{sym, ap, ◌∙◌}
 use borrow.Author.Rules.{rules}
+use Rattle.figures.specs.Flat.{opens}
 use Rattle.language.specs.Stretch.{mark_of}
 use Rattle.language.specs.Table.{statement_of}
 use Rattle.stretch.specs.Marks.{cell_mark}
@@ -10,7 +11,7 @@ use borrow.Enum.Refused.{opened}
 use Rattle.stretch.proofs.role_of.Goals as goal
 
 pub returns-in-Loop : goal.returns-in-Loop
-returns-in-Loop c = sym (ap cell_mark c.in-Loop.is ∙ mark_loop c.in-Loop.n)
+returns-in-Loop c = ap opens c.from.ensures ∙ sym (ap cell_mark c.in-Loop.is ∙ mark_loop c.in-Loop.n)
 
 pub returns-in-End : goal.returns-in-End
 unfolding cell_mark mark_of statement_of
@@ -24,7 +25,7 @@ unfolding cell_mark mark_of statement_of
 returns-in-WaitData c = search rules
 
 pub returns-in-WaitByte : goal.returns-in-WaitByte
-returns-in-WaitByte c = c.rest_above_zero-in-WaitByte.ensures ∙ sym (ap cell_mark c.in-WaitByte.is ∙ mark_byte c.in-WaitByte.n)
+returns-in-WaitByte c = (rw c.from-in-WaitByte.ensures at c.rest_above_zero-in-WaitByte.ensures) ∙ sym (ap cell_mark c.in-WaitByte.is ∙ mark_byte c.in-WaitByte.n)
 
 pub returns-in-WaitClock : goal.returns-in-WaitClock
 unfolding cell_mark mark_of statement_of

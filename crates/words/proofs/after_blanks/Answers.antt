@@ -1,22 +1,11 @@
--- `after_blanks` meets its contract: each turn of the loop is a law on its state, `Passing`. Assumes nothing.
-use mathlib.Core.Path.{refl, sym}
-use native.Mathlib.Omega.{arith}
-use Rattle.words.specs.Words.{after_blanks}
-use Rattle.words.proofs.Passing.{counts_blanks, at_end_lem, stopped, passed}
+-- `after_blanks` meets its contract: what is counted off the front is the spaces and tabs. Assumes nothing.
+use Rattle.std.proofs.Common.{arith}
+use Rattle.reader.specs.Bytes.{is_blank}
+use Rattle.words.proofs.Passing.{counted_few, blanks_at}
 use Rattle.words.proofs.after_blanks.Goals as goal
 
-pub loop-i-init : goal.loop-i-init
-loop-i-init c = record { whole = refl }
-
-pub returns-then-not-blank : goal.returns-then-not-blank
-unfolding after_blanks
-returns-then-not-blank c =
-    sym (stopped counts_blanks c.loop-i.invariant (omega arith) c.blank.ensures
-    c.if-not-blank.true)
-
-pub loop-i-preserved : goal.loop-i-preserved
-loop-i-preserved c = passed counts_blanks c.loop-i.invariant (omega arith) c.blank.ensures c.if-not-blank.false
+pub overflow_add-result : goal.overflow_add-result
+overflow_add-result c = omega (arith, c.rest.ensures.fits, c.blanks.ensures, counted_few is_blank c.rest.result.now)
 
 pub returns : goal.returns
-unfolding after_blanks
-returns c = sym (at_end_lem counts_blanks c.loop-i.invariant (omega arith))
+returns c = blanks_at _ _ c.rest.ensures.there c.blanks.ensures

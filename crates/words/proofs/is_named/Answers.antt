@@ -1,18 +1,18 @@
--- `is_named` meets its contract: each `return` is a law on the places. Assumes nothing.
-use mathlib.Core.Path.{◌∙◌}
+-- `is_named` meets its contract: a place past the end, or before the other, leaves no bytes. Assumes nothing.
+use Rattle.std.proofs.Common.{◌<◌, ap, ◌∙◌, arith}
+use Rattle.reader.specs.Bytes.{same}
 use Rattle.words.specs.Words.{is_named}
-use Rattle.words.proofs.Passing.{behind, outside, to_the_end}
+use Rattle.words.proofs.Passing.{held_same, to_the_end, nothing_there}
 use Rattle.words.proofs.is_named.Goals as goal
 
-pub returns-then-to-from : goal.returns-then-to-from
-returns-then-to-from c = behind _ _ _ _ c.if-to-from.true
-
-pub returns-then-s-from : goal.returns-then-s-from
-returns-then-s-from c = outside _ _ _ _ c.if-s-from.true
-
-pub returns-then-to-s : goal.returns-then-to-s
+pub returns-in-Some : goal.returns-in-Some
 unfolding is_named
-returns-then-to-s c = c.equal.ensures
+returns-in-Some c =
+    c.eq.ensures
+    ∙ held_same _ c.args.name.now
+    ∙ ap (λ w. same w c.args.name.now) (c.in-Some.ensures.lookup.0.2 ∙ to_the_end c.args.s.now c.args.from c.args.to c.args.name.now c.min.ensures)
 
-pub returns : goal.returns
-returns c = c.equal-2.ensures ∙ to_the_end _ _ _ _ c.if-to-s.false
+pub returns-in-None : goal.returns-in-None
+returns-in-None c =
+    let h : c.min.result < c.args.from = omega (arith, c.in-None.ensures.lookup.0, c.min.ensures) in
+    c.is_empty.ensures ∙ nothing_there c.args.s.now c.args.from c.args.to c.args.name.now c.min.ensures h

@@ -1,17 +1,7 @@
--- `trimmed_end` meets its contract: each turn of the loop is a law on its state, `Trimming`. Assumes nothing.
-use mathlib.Core.Path.{sym}
-use native.Mathlib.Omega.{arith}
-use Rattle.words.proofs.Passing.{untrimmed, all_trimmed, kept, trimmed}
+-- `trimmed_end` meets its contract: what is counted off the end is the spaces and tabs there. Assumes nothing.
+use Rattle.std.proofs.Common.{◌∙◌, reverse, arith}
+use Rattle.words.proofs.Passing.{blanks_taken, blanks_last}
 use Rattle.words.proofs.trimmed_end.Goals as goal
 
-pub loop-end-init : goal.loop-end-init
-loop-end-init c = untrimmed
-
-pub returns-then-not-blank : goal.returns-then-not-blank
-returns-then-not-blank c = sym (kept c.loop-end.invariant (omega arith) c.blank.ensures c.if-not-blank.true)
-
-pub loop-end-preserved : goal.loop-end-preserved
-loop-end-preserved c = trimmed c.loop-end.invariant (omega arith) c.blank.ensures c.if-not-blank.false
-
 pub returns : goal.returns
-returns c = sym (all_trimmed c.loop-end.invariant (omega arith))
+returns c = omega (arith, c.last_blanks.ensures ∙ blanks_taken (reverse c.args.s.now), blanks_last c.args.s.now)

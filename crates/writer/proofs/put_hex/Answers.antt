@@ -7,42 +7,33 @@ use Rattle.writer.proofs.Hexes.{hex_length}
 use Rattle.reader.proofs.Placing.{begun, renamed}
 use Rattle.writer.proofs.Writing.{done, no_room, hex_room, two_stored}
 use Rattle.writer.proofs.put_hex.Goals as goal
+use Rattle.writer.proofs.put_hex.Goals.{then-dst-at-via-then-dst-at, then-dst-at-via-else-dst-at+then-dst-at-2}
 
 pub returns-then-dst-at : goal.returns-then-dst-at
 returns-then-dst-at c =
     let a = c.args in
-    no_room (hex_text a.bytes.now) a.dst.now a.at (omega (arith, hex_length a.bytes.now))
+    elim c.then-dst-at.branch [
+      | then-dst-at-via-then-dst-at w ↦ no_room (hex_text a.bytes.now) a.dst.now a.at (omega (arith, hex_length a.bytes.now, w.if-dst-at.true))
+      | then-dst-at-via-else-dst-at+then-dst-at-2 w ↦
+          no_room (hex_text a.bytes.now) a.dst.now a.at (omega (arith, hex_length a.bytes.now, w.if-dst-at.false, w.if-dst-at-2.true))
+    ]
 
-pub returns-then-dst-at-2 : goal.returns-then-dst-at-2
-returns-then-dst-at-2 c =
-    let a = c.args in
-    no_room (hex_text a.bytes.now) a.dst.now a.at (omega (arith, hex_length a.bytes.now))
-
-pub loop-i-init : goal.loop-i-init
-loop-i-init c =
+pub loop-b-init : goal.loop-b-init
+loop-b-init c =
     let a = c.args in
     begun (omega (arith, hex_length a.bytes.now))
 
 pub bounds-dst-place : goal.bounds-dst-place
-bounds-dst-place c = omega (arith, hex_room _ _ c.loop-i-test.true c.loop-i.invariant)
+bounds-dst-place c = omega (arith, hex_room _ _ c.loop-b-test.true c.loop-b.invariant)
 
-pub overflow_add-dst : goal.overflow_add-dst
-overflow_add-dst c = omega (arith, hex_room _ _ c.loop-i-test.true c.loop-i.invariant, c.loop-i.invariant.long)
+pub bounds-dst-place-in-loop-b : goal.bounds-dst-place-in-loop-b
+bounds-dst-place-in-loop-b c = simp length-set (hex_room _ _ c.loop-b-test.true c.loop-b.invariant)
 
-pub bounds-dst-place-in-loop-i : goal.bounds-dst-place-in-loop-i
-bounds-dst-place-in-loop-i c = simp length-set (hex_room _ _ c.loop-i-test.true c.loop-i.invariant)
-
-pub overflow_add-place : goal.overflow_add-place
-overflow_add-place c = omega (arith, hex_room _ _ c.loop-i-test.true c.loop-i.invariant, c.loop-i.invariant.long)
-
-pub loop-i-preserved : goal.loop-i-preserved
-loop-i-preserved c =
-    two_stored _ _ c.loop-i-test.true (c.shared_slice_known-in-loop-i-1.given c.loop-i.i).fits
-    c.capital_digit.ensures c.capital_digit-in-loop-i.ensures c.loop-i.invariant
-
-pub shape_of-dst : goal.shape_of-dst
-shape_of-dst c = c.loop-i.invariant.long
+pub loop-b-preserved : goal.loop-b-preserved
+loop-b-preserved c =
+    two_stored _ _ c.loop-b-test.true (c.type_inv.bytes c.loop-b.b-index).fits
+    c.capital_digit.ensures c.capital_digit-in-loop-b.ensures c.loop-b.invariant
 
 pub returns : goal.returns
 unfolding hex_text
-returns c = done (renamed (ap hex_text (drop_of_length-le _ c.loop-i-test.false)) c.loop-i.invariant)
+returns c = done (renamed (ap hex_text (drop_of_length-le _ c.loop-b-test.false)) c.loop-b.invariant)

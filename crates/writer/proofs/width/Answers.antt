@@ -1,19 +1,21 @@
 -- `width` meets its contract: each turn of the loop is a law on its state, `Widening`. Assumes nothing.
-use mathlib.Core.Path.{refl}
 use native.Mathlib.Omega.{arith}
+use Prim.Native.Nat.{ℕ}
+use mathlib.Core.Path.{◌≡◌, ◌∙◌}
 use Rattle.writer.proofs.Widths.{narrow, wide_enough, widest, wider}
 use Rattle.writer.proofs.width.Goals as goal
 
-pub loop-w-init : goal.loop-w-init
-loop-w-init c = (refl, narrow)
+pub loop-count-init : goal.loop-count-init
+loop-count-init c = narrow
 
-pub returns-then-m-p : goal.returns-then-m-p
-returns-then-m-p c = wide_enough c.loop-w.invariant.1 (omega arith)
+pub returns-then-from-power : goal.returns-then-from-power
+returns-then-from-power c = wide_enough c.loop-count.invariant (omega (arith, c.from.ensures))
 
-pub loop-w-preserved : goal.loop-w-preserved
-loop-w-preserved c =
-    let i = c.loop-w.invariant in
-    (i.0, wider i.1 (omega arith) (omega arith))
+pub loop-count-preserved : goal.loop-count-preserved
+loop-count-preserved c = wider c.loop-count.invariant (omega arith) (omega (arith, c.from.ensures))
 
 pub returns : goal.returns
-returns c = widest c.loop-w.invariant.1 (omega arith)
+returns c =
+    let e : ◌≡◌ {A = ℕ} 10 c.loop-count.count = omega (arith, c.loop-count.invariant.few) in
+    let w = widest c.loop-count.invariant (omega arith) in
+    (e ∙ w.0, w.1)

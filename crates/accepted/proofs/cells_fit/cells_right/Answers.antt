@@ -1,25 +1,32 @@
 -- `accepted::cells_fit::cells_right` meets its contract. Assumes nothing.
-use Rattle.accepted.proofs.Fitting.{cells_not, other_end, too_much, cells_behind, cells_clean}
+use mathlib.Core.Path.{sym, ◌∙◌}
+use mathlib.Core.Bool.{true≢false}
+use borrow.Author.Tests.{lt-leb}
+use Rattle.accepted.proofs.AllZero.{zeros_are}
+use Rattle.accepted.proofs.Fitting.{other_end, too_much, cells_behind, cells_clean}
 use Rattle.accepted.proofs.cells_fit.cells_right.Goals as goal
+use Rattle.accepted.proofs.cells_fit.cells_right.Goals.{then-used-le-DATA, else-used-le-DATA, then-eq, else-eq}
 
-pub returns-then-used-end : goal.returns-then-used-end
-returns-then-used-end c = other_end _ _ _ _ c.data_end-reach.ensures c.in-To.is c.if-used-end.true
+pub returns-then-all_from : goal.returns-then-all_from
+returns-then-all_from c =
+    elim c.if-eq.branch [
+      | then-eq w ↦ elim c.if-used-le-DATA.branch [
+        | then-used-le-DATA v ↦
+            cells_clean _ _ _ _ v.data_end.ensures v.eq.ensures (sym v.value-is ∙ w.if-eq.true) (zeros_are _ w.all_from.ensures) v.if-used-le-DATA.true
+            (sym w.value-is ∙ c.if-all_from.true) (zeros_are _ c.all_from-then-all_from.ensures)
+        | else-used-le-DATA v ↦ absurd (true≢false (sym w.if-eq.true ∙ (v.value-is ∙ lt-leb _ _ v.if-used-le-DATA.false)))
+      ]
+      | else-eq w ↦ absurd (true≢false (sym c.if-all_from.true ∙ (w.value-is ∙ w.if-eq.false)))
+    ]
 
-pub returns-then-used-gt-DATA : goal.returns-then-used-gt-DATA
-returns-then-used-gt-DATA c =
-    too_much _ _ _ _ c.data_end-reach.ensures c.in-To.is c.if-used-end.false
-    c.if-used-gt-DATA.true
-
-pub returns-then-words_zero : goal.returns-then-words_zero
-returns-then-words_zero c =
-    cells_clean _ _ _ _ c.data_end-reach.ensures c.in-To.is
-    c.if-used-end.false c.words_zero.ensures c.if-used-gt-DATA.false c.if-words_zero.true
-    c.bytes_zero.ensures
-
-pub returns-else-words_zero : goal.returns-else-words_zero
-returns-else-words_zero c =
-    cells_behind _ _ _ _ c.data_end-reach.ensures c.in-To.is
-    c.if-used-end.false c.words_zero.ensures c.if-words_zero.false
-
-pub returns-in-Not : goal.returns-in-Not
-returns-in-Not c = cells_not _ _ _ _ c.data_end-reach.ensures c.in-Not.is
+pub returns-else-all_from : goal.returns-else-all_from
+returns-else-all_from c =
+    c.if-all_from.false
+    ∙ elim c.if-used-le-DATA.branch [
+      | then-used-le-DATA v ↦ elim c.if-eq.branch [
+        | then-eq w ↦
+            cells_behind _ _ _ _ v.data_end.ensures v.eq.ensures (sym v.value-is ∙ w.if-eq.true) (zeros_are _ w.all_from.ensures) (sym w.value-is ∙ c.if-all_from.false)
+        | else-eq w ↦ other_end _ _ _ _ v.data_end.ensures v.eq.ensures (sym v.value-is ∙ w.if-eq.false)
+      ]
+      | else-used-le-DATA v ↦ too_much _ _ _ _ v.if-used-le-DATA.false
+    ]

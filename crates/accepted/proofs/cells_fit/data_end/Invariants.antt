@@ -1,11 +1,6 @@
--- `accepted::cells_fit::data_end` meets its contract: the words from i on decide. Assumes nothing.
-use Prim.Native.Nat.{◌-◌}
-use lib.ListN.{length}
+-- `accepted::cells_fit::data_end` meets its contract: the words from the next on decide. Assumes nothing.
 use Rattle.accepted.proofs.CellsFit.{Going}
 use Rattle.accepted.proofs.cells_fit.data_end.Given as goal
 
-abbrev pub invariant-loop-i : goal.invariant-loop-i
-invariant-loop-i l = Going l.pool l.words l.in_use l.at l.i
-
-abbrev pub decreases-loop-i : goal.decreases-loop-i
-decreases-loop-i l = length l.words - l.i
+abbrev pub invariant-loop-w : goal.invariant-loop-w
+invariant-loop-w l = Going l.pool l.w-items l.at l.w-index

@@ -1,23 +1,23 @@
--- `accepted::ends::last_end` meets its contract: the ends from i on decide. Assumes nothing.
-use mathlib.Core.Path.{refl}
-use native.Mathlib.Omega.{arith}
-use Rattle.accepted.proofs.EndsFit.{pass_enough, pass_past, pass_falls, pass_leaves, pass_on}
+-- `accepted::ends::last_end` meets its contract: the ends from the next on decide. Assumes nothing.
+use mathlib.Core.Path.{ap, ◌∙◌}
+use Rattle.accepted.specs.Inside.EndsFit.{ends_reach}
+use Rattle.accepted.proofs.EndsFit.{take_clip, pass_past, pass_falls, pass_leaves, pass_on}
 use Rattle.accepted.proofs.ends.last_end.Goals as goal
-
-pub loop-i-init : goal.loop-i-init
-loop-i-init c = record { whole = refl }
-
-pub returns-then-processes-i : goal.returns-then-processes-i
-returns-then-processes-i c = pass_enough c.loop-i.invariant c.if-processes-i.true
+use Rattle.accepted.proofs.ends.last_end.Goals.{then-end-last-via-then-end-last, then-end-last-via-else-end-last+then-end-gt-CELL_PLACES}
 
 pub returns-then-end-last : goal.returns-then-end-last
-returns-then-end-last c = pass_falls c.loop-i.invariant (omega arith) (omega arith) c.wide-end.ensures c.if-end-last.true
+returns-then-end-last c =
+    elim c.then-end-last.branch [
+      | then-end-last-via-then-end-last w ↦
+          pass_falls c.loop-end.invariant c.loop-end-test.true c.from-end.ensures w.if-end-last.true
+          ∙ ap (ends_reach 0) (take_clip _ _ _ c.min.ensures)
+      | then-end-last-via-else-end-last+then-end-gt-CELL_PLACES w ↦
+          pass_leaves c.loop-end.invariant c.loop-end-test.true c.from-end.ensures w.if-end-last.false w.if-end-gt-CELL_PLACES.true
+          ∙ ap (ends_reach 0) (take_clip _ _ _ c.min.ensures)
+    ]
 
-pub returns-then-end-gt-CELL_PLACES : goal.returns-then-end-gt-CELL_PLACES
-returns-then-end-gt-CELL_PLACES c = pass_leaves c.loop-i.invariant (omega arith) (omega arith) c.wide-end.ensures (omega arith) c.if-end-gt-CELL_PLACES.true
-
-pub loop-i-preserved : goal.loop-i-preserved
-loop-i-preserved c = pass_on c.loop-i.invariant (omega arith) (omega arith) c.wide-end.ensures (omega arith) c.if-end-gt-CELL_PLACES.false
+pub loop-end-preserved : goal.loop-end-preserved
+loop-end-preserved c = pass_on c.loop-end.invariant c.loop-end-test.true c.from-end.ensures c.if-end-last.false c.if-end-gt-CELL_PLACES.false
 
 pub returns : goal.returns
-returns c = pass_past c.loop-i.invariant c.loop-i-test.false
+returns c = pass_past c.loop-end.invariant c.loop-end-test.false ∙ ap (ends_reach 0) (take_clip _ _ _ c.min.ensures)

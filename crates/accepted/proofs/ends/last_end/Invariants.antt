@@ -1,11 +1,6 @@
--- `accepted::ends::last_end` meets its contract: the ends from i on decide. Assumes nothing.
-use Prim.Native.Nat.{◌-◌}
-use lib.ListN.{length}
+-- `accepted::ends::last_end` meets its contract: the ends from the next on decide. Assumes nothing.
 use Rattle.accepted.proofs.EndsFit.{Passing}
 use Rattle.accepted.proofs.ends.last_end.Given as goal
 
-abbrev pub invariant-loop-i : goal.invariant-loop-i
-invariant-loop-i l = Passing l.ends l.processes l.last l.i
-
-abbrev pub decreases-loop-i : goal.decreases-loop-i
-decreases-loop-i l = length l.ends - l.i
+abbrev pub invariant-loop-end : goal.invariant-loop-end
+invariant-loop-end l = Passing l.end-items l.last l.end-index

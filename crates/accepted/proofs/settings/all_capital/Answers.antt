@@ -1,23 +1,15 @@
--- `accepted::settings::all_capital` meets its contract: the bytes from i on decide. Assumes nothing.
-use mathlib.Core.Path.{refl, sym, ◌∙◌}
+-- `accepted::settings::all_capital` meets its contract. Assumes nothing.
+use mathlib.Core.Path.{◌∙◌}
+use borrow.Author.Rules.{rules}
+use borrow.Author.Tests.{tests}
+use Rattle.std.proofs.lemmas.Iterator.{YieldsList-from_slice}
+use Rattle.std.proofs.lemmas.Iterator.Search.{all_from_yields_List}
 use Rattle.language.specs.Meaning.{is_capital}
-use Rattle.reader.proofs.Each.{each_past, each_not, each_end}
+use Rattle.accepted.proofs.Extension.{all_is}
 use Rattle.accepted.proofs.settings.all_capital.Goals as goal
-
-pub loop-i-init : goal.loop-i-init
-loop-i-init c = refl
-
-pub loop-i-preserved : goal.loop-i-preserved
-loop-i-preserved c =
-    c.loop-i.invariant ∙ each_past is_capital c.args.text.now c.loop-i.i 0
-    c.loop-i-test.true (sym c.is_capital.ensures ∙ c.if-is_capital.true)
-
-pub returns-else-is_capital : goal.returns-else-is_capital
-returns-else-is_capital c =
-    sym (c.loop-i.invariant ∙ each_not is_capital c.args.text.now c.loop-i.i 0
-    c.loop-i-test.true (sym c.is_capital.ensures ∙ c.if-is_capital.false))
 
 pub returns : goal.returns
 returns c =
-    sym (c.loop-i.invariant ∙ each_end is_capital c.args.text.now c.loop-i.i
-    c.loop-i-test.false)
+    let xs = c.args.text.now in
+    all_from_yields_List is_capital _ _ _ c.all.ensures.ran (YieldsList-from_slice xs cc) (λ x b q k. search (rules, tests))
+    ∙ all_is is_capital xs

@@ -1,16 +1,15 @@
--- `accepted::settings::letters` meets its contract: no zero stands before i. Assumes nothing.
-use native.Mathlib.Omega.{arith}
-use Rattle.accepted.proofs.Extension.{letters_past, letters_end, letters_on}
+-- `accepted::settings::letters` meets its contract. Assumes nothing.
+use Rattle.std.specs.Prelude.{ℕ, eqb}
+use mathlib.Core.Path.{◌∙◌}
+use borrow.Author.Rules.{rules}
+use borrow.Author.Tests.{tests}
+use Rattle.std.proofs.lemmas.Iterator.{YieldsList-from_slice}
+use Rattle.std.proofs.lemmas.Iterator.Search.{position_from_yields_List}
+use Rattle.accepted.proofs.Extension.{letters_position}
 use Rattle.accepted.proofs.settings.letters.Goals as goal
 
-pub loop-i-init : goal.loop-i-init
-loop-i-init c = record { whole = omega arith }
-
-pub returns-then-extension-i-eq0 : goal.returns-then-extension-i-eq0
-returns-then-extension-i-eq0 c = letters_end c.loop-i.invariant c.loop-i-test.true c.if-extension-i-eq0.true
-
-pub loop-i-preserved : goal.loop-i-preserved
-loop-i-preserved c = letters_on c.loop-i.invariant c.loop-i-test.true c.if-extension-i-eq0.false
-
 pub returns : goal.returns
-returns c = letters_past c.loop-i.invariant c.loop-i-test.false
+returns c =
+    let xs = c.args.extension.now in
+    let p = position_from_yields_List (λ (b : ℕ). eqb b 0) _ _ c.position.result c.position.ensures.ran (YieldsList-from_slice xs cc) (λ x b q k. search (rules, tests)) in
+    c.unwrap_or.ensures ∙ letters_position xs p

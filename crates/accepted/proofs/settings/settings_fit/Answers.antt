@@ -1,9 +1,33 @@
 -- `accepted::settings::settings_fit` meets its contract. Assumes nothing.
-use Rattle.accepted.proofs.Setting.{settings_are}
+use mathlib.Core.Path.{sym, ◌∙◌}
+use mathlib.Core.Bool.{true≢false}
+use borrow.Author.Tests.{lt-leb}
+use Rattle.accepted.proofs.AllZero.{zeros_are}
+use Rattle.accepted.proofs.Setting.{coded, many, written, settings_are}
 use Rattle.accepted.proofs.settings.settings_fit.Goals as goal
+use Rattle.accepted.proofs.settings.settings_fit.Goals.{then-omits-le10, else-omits-le10, then-encode_fits, else-encode_fits}
 
-pub returns : goal.returns
-returns c =
-    settings_are _ c.wide_byte-omits.ensures c.encode_fits.ensures
-    c.bytes_zero.ensures c.extension_fits.ensures c.both-rest.ensures
-    c.both.ensures c.both-2.ensures
+pub returns-then-all_from : goal.returns-then-all_from
+returns-then-all_from c =
+    elim c.if-encode_fits.branch [
+      | then-encode_fits w ↦ elim c.if-omits-le10.branch [
+        | then-omits-le10 v ↦
+            settings_are _ c.from-omits.ensures v.encode_fits.ensures (sym v.value-is ∙ w.if-encode_fits.true) v.if-omits-le10.true
+            (zeros_are _ w.all_from.ensures) (sym w.value-is ∙ c.if-all_from.true) c.extension_fits.ensures
+        | else-omits-le10 v ↦ absurd (true≢false (sym w.if-encode_fits.true ∙ (v.value-is ∙ lt-leb _ _ v.if-omits-le10.false)))
+      ]
+      | else-encode_fits w ↦ absurd (true≢false (sym c.if-all_from.true ∙ (w.value-is ∙ w.if-encode_fits.false)))
+    ]
+
+pub returns-else-all_from : goal.returns-else-all_from
+returns-else-all_from c =
+    c.if-all_from.false
+    ∙ elim c.if-omits-le10.branch [
+      | then-omits-le10 v ↦ elim c.if-encode_fits.branch [
+        | then-encode_fits w ↦
+            written _ c.from-omits.ensures v.encode_fits.ensures (sym v.value-is ∙ w.if-encode_fits.true) v.if-omits-le10.true
+            (zeros_are _ w.all_from.ensures) (sym w.value-is ∙ c.if-all_from.false)
+        | else-encode_fits w ↦ coded _ c.from-omits.ensures v.encode_fits.ensures (sym v.value-is ∙ w.if-encode_fits.false)
+      ]
+      | else-omits-le10 v ↦ many _ c.from-omits.ensures v.if-omits-le10.false
+    ]

@@ -1,11 +1,9 @@
 -- `cases::spelling::spell` ends: the bytes left of the line fall. Assumes nothing.
-use Prim.Native.Nat.{◌-◌}
-use mathlib.Core.Path.{◌≡◌}
 use lib.ListN.{length}
 use Rattle.cases.proofs.spelling.spell.Given as goal
 
-abbrev pub invariant-loop-at : goal.invariant-loop-at
-invariant-loop-at l = length l.out ≡ length l.initial.out
+abbrev pub invariant-loop-run : goal.invariant-loop-run
+invariant-loop-run l = Unit {0}
 
-abbrev pub decreases-loop-at : goal.decreases-loop-at
-decreases-loop-at l = length l.line - l.at
+abbrev pub decreases-loop-run : goal.decreases-loop-run
+decreases-loop-run l = length l.rest

@@ -33,9 +33,5 @@ pub returns-in-TextTooLong : goal.returns-in-TextTooLong
 unfolding column_in
 returns-in-TextTooLong c = search rules
 
-pub returns-in-StretchTooLong : goal.returns-in-StretchTooLong
-unfolding column_in
-returns-in-StretchTooLong c = search rules
-
 pub returns-in_default : goal.returns-in_default
-returns-in_default c = other_first _ c.args.fault (opened c.in_default.in_default-own.keys5)
+returns-in_default c = other_first _ c.args.fault (opened c.in_default.in_default-own.keys4)

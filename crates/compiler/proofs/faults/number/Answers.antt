@@ -1,52 +1,52 @@
--- `compiler::faults::number` meets its contract: each arm is given which variant the fault is. Assumes nothing.
+-- The number of a fault is the one that stands beside it. Assumes nothing.
+use Rattle.std.proofs.Common.{rules}
 use Rattle.language.specs.Answer.{fault_number}
-use borrow.Author.Rules.{rules}
 use Rattle.compiler.proofs.faults.number.Goals as goal
 
-pub returns-in-TextTooLong : goal.returns-in-TextTooLong
+pub returns : goal.returns
 unfolding fault_number
-returns-in-TextTooLong c = search rules
+returns c = search rules
 
-pub returns-in-LineTooLong : goal.returns-in-LineTooLong
+pub returns-2 : goal.returns-2
 unfolding fault_number
-returns-in-LineTooLong c = search rules
+returns-2 c = search rules
 
-pub returns-in-TooManyLines : goal.returns-in-TooManyLines
+pub returns-3 : goal.returns-3
 unfolding fault_number
-returns-in-TooManyLines c = search rules
+returns-3 c = search rules
 
-pub returns-in-NoSuchName : goal.returns-in-NoSuchName
+pub returns-4 : goal.returns-4
 unfolding fault_number
-returns-in-NoSuchName c = search rules
+returns-4 c = search rules
 
-pub returns-in-BadRest : goal.returns-in-BadRest
+pub returns-5 : goal.returns-5
 unfolding fault_number
-returns-in-BadRest c = search rules
+returns-5 c = search rules
 
-pub returns-in-TooMuchData : goal.returns-in-TooMuchData
+pub returns-6 : goal.returns-6
 unfolding fault_number
-returns-in-TooMuchData c = search rules
+returns-6 c = search rules
 
-pub returns-in-TooManyOmits : goal.returns-in-TooManyOmits
+pub returns-7 : goal.returns-7
 unfolding fault_number
-returns-in-TooManyOmits c = search rules
+returns-7 c = search rules
 
-pub returns-in-TooManyLoops : goal.returns-in-TooManyLoops
+pub returns-8 : goal.returns-8
 unfolding fault_number
-returns-in-TooManyLoops c = search rules
+returns-8 c = search rules
 
-pub returns-in-EndWithoutLoop : goal.returns-in-EndWithoutLoop
+pub returns-9 : goal.returns-9
 unfolding fault_number
-returns-in-EndWithoutLoop c = search rules
+returns-9 c = search rules
 
-pub returns-in-LoopLeftOpen : goal.returns-in-LoopLeftOpen
+pub returns-10 : goal.returns-10
 unfolding fault_number
-returns-in-LoopLeftOpen c = search rules
+returns-10 c = search rules
 
-pub returns-in-TooManyProcesses : goal.returns-in-TooManyProcesses
+pub returns-11 : goal.returns-11
 unfolding fault_number
-returns-in-TooManyProcesses c = search rules
+returns-11 c = search rules
 
-pub returns-in-StretchTooLong : goal.returns-in-StretchTooLong
+pub returns-12 : goal.returns-12
 unfolding fault_number
-returns-in-StretchTooLong c = search rules
+returns-12 c = search rules

@@ -1,11 +1,7 @@
--- `no_feed` meets its contract: the loop's invariant is the answer for the bytes that it has passed. Assumes nothing.
-use Prim.Native.Nat.{◌+◌, ◌-◌, ◌≤◌}
-use mathlib.Core.Path.{◌≡◌}
+-- The flag is the answer for the bytes that the loop has passed. Assumes nothing.
+use Rattle.std.proofs.Common.{◌≡◌, ◌+◌}
 use Rattle.compiler.specs.Inside.Text.{part, no_lf}
 use Rattle.compiler.proofs.feeds.no_feed.Given as goal
 
-abbrev pub invariant-loop-i : goal.invariant-loop-i
-invariant-loop-i l = (l.i ≤ 16) × (l.none ≡ no_lf (part l.text l.from (l.from + l.i)))
-
-abbrev pub decreases-loop-i : goal.decreases-loop-i
-decreases-loop-i l = 16 - l.i
+abbrev pub invariant-loop-byte : goal.invariant-loop-byte
+invariant-loop-byte l = l.none ≡ no_lf (part l.text l.from (l.from + l.byte-index))

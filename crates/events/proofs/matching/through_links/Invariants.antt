@@ -1,13 +1,10 @@
 -- `events::matching::through_links` meets its contract. Assumes nothing.
 use mathlib.Core.Path.{◌≡◌}
-use Prim.Native.Nat.{◌+◌, ◌-◌, ◌≤◌}
+use Prim.Native.Nat.{◌+◌, ◌≤◌}
 use lib.ListN.{length, drop}
 use Rattle.events.specs.Inside.Passing.{farther, matched_on}
 use Rattle.events.proofs.matching.through_links.Given as goal
 
 abbrev pub invariant-loop-i : goal.invariant-loop-i
 invariant-loop-i l =
-    (l.i ≤ length l.run) × (l.k ≤ length l.want) × (l.k ≤ l.from + l.i) × (matched_on l.want l.from l.run ≡ farther l.i (matched_on l.want l.k (drop l.i l.run)))
-
-abbrev pub decreases-loop-i : goal.decreases-loop-i
-decreases-loop-i l = length l.run - l.i
+    (l.k ≤ length l.want) × (l.k ≤ l.from + l.i) × (matched_on l.want l.from l.run ≡ farther l.i (matched_on l.want l.k (drop l.i l.run)))

@@ -3,10 +3,10 @@ use borrow.Author.Tests.{lt-ltb, le-ltb}
 use Rattle.events.specs.Inside.Passing.{ended_at}
 use Rattle.events.proofs.passing.ended.Goals as goal
 
-pub returns-then-place-end : goal.returns-then-place-end
+pub returns-then-p : goal.returns-then-p
 unfolding ended_at
-returns-then-place-end c = let a = c.args in rw (lt-ltb a.place a.end c.if-place-end.true)
+returns-then-p c = let p = c.args.p in rw (lt-ltb p.place p.end c.if-p.true)
 
-pub returns-else-place-end : goal.returns-else-place-end
+pub returns-else-p : goal.returns-else-p
 unfolding ended_at
-returns-else-place-end c = let a = c.args in rw (le-ltb a.place a.end c.if-place-end.false)
+returns-else-p c = let p = c.args.p in rw (le-ltb p.place p.end c.if-p.false)

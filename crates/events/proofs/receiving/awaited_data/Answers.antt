@@ -9,5 +9,5 @@ pub returns : goal.returns
 returns c =
     let a = c.args in
     let n : length a.pool.now ≡ 1024 = search rules in
-    let e = part_is a.pool.now a.m c.wide-from.ensures c.wide-count.ensures in
+    let e = part_is a.pool.now a.m c.from-from.ensures c.from.ensures in
     (e, ap length e ∙ awaited_length a.pool.now a.m n c.requires)

@@ -1,22 +1,25 @@
--- `is_capital` meets its contract: each `return` is a case of `isCapital`. Assumes nothing.
-use Prim.Native.Nat.{◌<◌}
-use native.Mathlib.Omega.{arith}
-use borrow.Author.Tests.{le-leb, lt-leb}
+-- Each way on is a case of the definition. Assumes nothing.
+use Rattle.std.proofs.Common.{arith}
+use Rattle.std.proofs.lemmas.Bool.Decides.{nat_tests}
 use Rattle.language.specs.Meaning.{is_capital}
 use Rattle.language.proofs.extension.is_capital.Goals as goal
 
-pub returns-then-b-lt48 : goal.returns-then-b-lt48
+pub returns-in-48-to-57 : goal.returns-in-48-to-57
 unfolding is_capital
-returns-then-b-lt48 c = let h : c.args.b < 65 = omega arith in simp (lt-leb _ _ c.if-b-lt48.true, lt-leb _ _ h)
+returns-in-48-to-57 c = grind (arith, nat_tests)
 
-pub returns-then-b-le57 : goal.returns-then-b-le57
+pub returns-in-48-to-57-2 : goal.returns-in-48-to-57-2
 unfolding is_capital
-returns-then-b-le57 c = simp (le-leb _ _ c.if-b-lt48.false, le-leb _ _ c.if-b-le57.true)
+returns-in-48-to-57-2 c = grind (arith, nat_tests)
 
-pub returns-then-b-lt65 : goal.returns-then-b-lt65
+pub returns-in_default : goal.returns-in_default
 unfolding is_capital
-returns-then-b-lt65 c = simp (le-leb _ _ c.if-b-lt48.false, lt-leb _ _ c.if-b-le57.false, lt-leb _ _ c.if-b-lt65.true)
+returns-in_default c = grind (arith, nat_tests)
 
-pub returns : goal.returns
+pub returns-in_default-2 : goal.returns-in_default-2
 unfolding is_capital
-returns c = simp (le-leb _ _ c.if-b-lt48.false, lt-leb _ _ c.if-b-le57.false, le-leb _ _ c.if-b-lt65.false)
+returns-in_default-2 c = grind (arith, nat_tests)
+
+pub returns-in_default-3 : goal.returns-in_default-3
+unfolding is_capital
+returns-in_default-3 c = grind (arith, nat_tests)

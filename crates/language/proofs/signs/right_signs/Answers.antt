@@ -1,27 +1,17 @@
--- `right_signs` meets its contract: each turn of the loop is a law on its state, `Signing`. Assumes nothing.
-use mathlib.Core.Path.{refl}
-use native.Mathlib.Omega.{arith}
-use Rattle.language.proofs.Signing.{all_right_lem, no_at, no_more, bad_sign, good_sign}
+-- Each turn of the loop is a law of `Signing`. Assumes nothing.
+use mathlib.Core.Path.{sym, ◌∙◌}
+use Rattle.language.proofs.Signing.{none_left, unmarked, good_sign, bad_sign}
 use Rattle.language.proofs.signs.right_signs.Goals as goal
+use Rattle.language.proofs.signs.right_signs.Goals.{then-not-marked, else-not-marked+then-is_sign}
 
-pub loop-i-init : goal.loop-i-init
-loop-i-init c = record { whole = refl }
+pub returns-else-is_sign : goal.returns-else-is_sign
+returns-else-is_sign c = bad_sign _ _ c.loop-byte-test.true c.loop-byte.invariant c.if-not-marked.false (sym c.is_sign.ensures ∙ c.if-is_sign.false)
 
-pub returns-then-text-next : goal.returns-then-text-next
-returns-then-text-next c = no_more c.loop-i.invariant (omega arith) c.if-text-i-eq64.true (omega arith)
-
-pub returns-then-not-is_sign : goal.returns-then-not-is_sign
-returns-then-not-is_sign c =
-    bad_sign c.loop-i.invariant (omega arith) c.if-text-i-eq64.true (omega arith) c.is_sign.ensures
-    c.if-not-is_sign.true
-
-pub loop-i-preserved-then-text-i-eq64 : goal.loop-i-preserved-then-text-i-eq64
-loop-i-preserved-then-text-i-eq64 c =
-    good_sign c.loop-i.invariant (omega arith) c.if-text-i-eq64.true (omega arith) c.is_sign.ensures
-    c.if-not-is_sign.false
-
-pub loop-i-preserved : goal.loop-i-preserved
-loop-i-preserved c = no_at c.loop-i.invariant (omega arith) c.if-text-i-eq64.false
+pub loop-byte-preserved : goal.loop-byte-preserved
+loop-byte-preserved c = elim c.if-not-marked.branch [
+  | then-not-marked w ↦ unmarked _ _ c.loop-byte-test.true c.loop-byte.invariant w.if-not-marked.true w.marked-is
+  | else-not-marked+then-is_sign w ↦ good_sign _ _ c.loop-byte-test.true c.loop-byte.invariant w.if-not-marked.false (sym w.is_sign.ensures ∙ w.if-is_sign.true) w.marked-is
+]
 
 pub returns : goal.returns
-returns c = all_right_lem c.loop-i.invariant (omega arith)
+returns c = none_left _ _ c.loop-byte-test.false c.loop-byte.invariant

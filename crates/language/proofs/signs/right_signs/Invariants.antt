@@ -1,11 +1,6 @@
--- `right_signs` meets its contract: each turn of the loop is a law on its state, `Signing`. Assumes nothing.
-use Prim.Native.Nat.{◌-◌}
-use lib.ListN.{length}
+-- Whether the signs of the whole are right is whether those of what is left are. Assumes nothing.
 use Rattle.language.proofs.Signing.{Signing}
 use Rattle.language.proofs.signs.right_signs.Given as goal
 
-abbrev pub invariant-loop-i : goal.invariant-loop-i
-invariant-loop-i l = Signing l.text l.i
-
-abbrev pub decreases-loop-i : goal.decreases-loop-i
-decreases-loop-i l = length l.text - l.i
+abbrev pub invariant-loop-byte : goal.invariant-loop-byte
+invariant-loop-byte l = Signing l.text l.byte-index l.marked

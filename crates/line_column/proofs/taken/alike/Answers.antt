@@ -1,20 +1,21 @@
 -- `alike` meets its contract: each turn of the loop is a law on its state, `Agreeing`. Assumes nothing.
 use mathlib.Core.Path.{refl}
-use native.Mathlib.Omega.{arith}
 use Rattle.line_column.proofs.Agreeing.{name_ended, bytes_ended, differs, agrees}
+use Rattle.line_column.proofs.taken.alike.Goals.{then-s-i-via-then-s-i, then-s-i-via-else-s-i+then-b-s}
 use Rattle.line_column.proofs.taken.alike.Goals as goal
 
-pub loop-n-init : goal.loop-n-init
-loop-n-init c = record { whole = refl }
+pub loop-b-init : goal.loop-b-init
+loop-b-init c = record { whole = refl }
 
 pub returns-then-s-i : goal.returns-then-s-i
-returns-then-s-i c = bytes_ended c.loop-n.invariant (omega arith) (omega arith)
+returns-then-s-i c =
+    elim c.then-s-i.branch [
+      | then-s-i-via-then-s-i w ↦ bytes_ended c.loop-b.invariant c.loop-b-test.true w.if-s-i.true
+      | then-s-i-via-else-s-i+then-b-s w ↦ differs c.loop-b.invariant c.loop-b-test.true w.if-s-i.false w.if-b-s.true
+    ]
 
-pub returns-then-name-n : goal.returns-then-name-n
-returns-then-name-n c = differs c.loop-n.invariant (omega arith) (omega arith) c.if-name-n.true
-
-pub loop-n-preserved : goal.loop-n-preserved
-loop-n-preserved c = agrees c.loop-n.invariant (omega arith) (omega arith) c.if-name-n.false
+pub loop-b-preserved : goal.loop-b-preserved
+loop-b-preserved c = agrees c.loop-b.invariant c.loop-b-test.true c.if-s-i.false c.if-b-s.false
 
 pub returns : goal.returns
-returns c = name_ended c.loop-n.invariant (omega arith)
+returns c = name_ended c.loop-b.invariant c.loop-b-test.false

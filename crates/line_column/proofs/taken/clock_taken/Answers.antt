@@ -4,10 +4,10 @@ use Rattle.language.specs.Column.{clock_taken}
 use Rattle.line_column.proofs.Clocked.{clock_whole, clock_bad}
 use Rattle.line_column.proofs.taken.clock_taken.Goals as goal
 
-pub returns-in-Of : goal.returns-in-Of
+pub returns-in-Ok : goal.returns-in-Ok
 unfolding clock_taken
-returns-in-Of c = clock_whole _ _ (sym c.in-Of.is ∙ c.clock_value.ensures)
+returns-in-Ok c = clock_whole _ _ (sym c.in-Ok.is ∙ c.clock_value.ensures)
 
-pub returns-in-Bad : goal.returns-in-Bad
+pub returns-in-Err : goal.returns-in-Err
 unfolding clock_taken
-returns-in-Bad c = clock_bad _ _ (sym c.in-Bad.is ∙ c.clock_value.ensures)
+returns-in-Err c = clock_bad _ _ (sym c.in-Err.is ∙ c.clock_value.ensures)

@@ -1,12 +1,7 @@
 -- `lfext_taken` meets its contract: each turn of the loop is a law on its state, `Lettering`. Assumes nothing.
-use Prim.Native.Nat.{◌-◌}
-use lib.ListN.{length}
 use Rattle.language.specs.Limits.{letter_limit}
 use Rattle.line_column.proofs.Lettering.{Lettering}
 use Rattle.line_column.proofs.taken.lfext_taken.Given as goal
 
 abbrev pub invariant-loop-i : goal.invariant-loop-i
 invariant-loop-i l = Lettering letter_limit l.word l.i
-
-abbrev pub decreases-loop-i : goal.decreases-loop-i
-decreases-loop-i l = length l.word - l.i

@@ -4,10 +4,10 @@ use Rattle.numbers.specs.Number.{number_place}
 use Rattle.language.specs.Column.{number_taken}
 use Rattle.line_column.proofs.taken.number_taken.Goals as goal
 
-pub returns-in-Value : goal.returns-in-Value
+pub returns-in-Ok : goal.returns-in-Ok
 unfolding number_taken number_place
-returns-in-Value c = ap number_place (sym c.in-Value.is ∙ c.number.ensures)
+returns-in-Ok c = ap number_place (sym c.in-Ok.is ∙ c.number.ensures)
 
-pub returns-in-Bad : goal.returns-in-Bad
+pub returns-in-Err : goal.returns-in-Err
 unfolding number_taken number_place
-returns-in-Bad c = ap number_place (sym c.in-Bad.is ∙ c.number.ensures)
+returns-in-Err c = ap number_place (sym c.in-Err.is ∙ c.number.ensures)

@@ -6,4 +6,4 @@ use Rattle.line_column.proofs.taken.unit_taken.Goals as goal
 
 pub returns : goal.returns
 unfolding unit_taken
-returns c = c.further.ensures ∙ of_two _ _ _ c.alike.ensures c.alike-2.ensures
+returns c = c.max.ensures ∙ of_two _ _ _ c.alike.ensures c.alike-2.ensures

@@ -9,15 +9,15 @@ use Rattle.line_column.proofs.texts.encode_taken.Goals as goal
 pub returns-then-line-from : goal.returns-then-line-from
 returns-then-line-from c = nothing_encoded _ _ c.if-line-from.true ∙ behind_blanks_lem _ _ c.after_blanks-from.ensures encode_taken
 
-pub returns-in-Value : goal.returns-in-Value
-returns-in-Value c =
+pub returns-in-Ok : goal.returns-in-Ok
+returns-in-Ok c =
     let behind = behind_blanks_lem _ _ c.after_blanks-from.ensures encode_taken in
-    digits_all _ _ (omega arith) c.if-line-from-eq58.true (sym c.in-Value.is ∙ c.hex_byte.ensures) ∙ behind
+    digits_all _ _ (omega arith) c.if-line-from-eq58.true (sym c.in-Ok.is ∙ c.hex_byte.ensures) ∙ behind
 
-pub returns-in-Bad : goal.returns-in-Bad
-returns-in-Bad c =
+pub returns-in-Err : goal.returns-in-Err
+returns-in-Err c =
     let behind = behind_blanks_lem _ _ c.after_blanks-from.ensures encode_taken in
-    digits_to _ _ (omega arith) c.if-line-from-eq58.true (sym c.in-Bad.is ∙ c.hex_byte.ensures) ∙ behind
+    digits_to _ _ (omega arith) c.if-line-from-eq58.true (sym c.in-Err.is ∙ c.hex_byte.ensures) ∙ behind
 
 pub returns : goal.returns
 returns c =

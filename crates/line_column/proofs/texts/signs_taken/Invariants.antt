@@ -1,11 +1,6 @@
 -- `signs_taken` meets its contract: each turn of the loop is a law on its state, `Signing`. Assumes nothing.
-use Prim.Native.Nat.{◌-◌}
-use lib.ListN.{length}
 use Rattle.line_column.proofs.Signing.{Signing}
 use Rattle.line_column.proofs.texts.signs_taken.Given as goal
 
 abbrev pub invariant-loop-i : goal.invariant-loop-i
 invariant-loop-i l = Signing l.line l.at l.i l.marked
-
-abbrev pub decreases-loop-i : goal.decreases-loop-i
-decreases-loop-i l = length l.line - l.i

@@ -4,4 +4,4 @@ use Rattle.line_meaning.proofs.Filling.{text_put}
 use Rattle.line_meaning.proofs.texts.put_text.Goals as goal
 
 pub returns : goal.returns
-returns c = (refl, text_put _ _ c.put_bytes-arg-1.given.0.1 c.requires c.put_bytes.ensures.1)
+returns c = (refl, text_put _ _ c.told-bytes c.args.text.fits c.put_bytes.ensures.1)

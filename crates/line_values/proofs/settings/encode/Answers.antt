@@ -10,19 +10,19 @@ unfolding line_from
 returns-then-argument-eq0 c = ap line_from (sym (no_byte _ c.if-argument-eq0.true))
 
 pub overflow_cast-result : goal.overflow_cast-result
-overflow_cast-result c = record { fits = byte_fits _ (sym c.in-Value.is ∙ c.hex_byte.ensures) }
+overflow_cast-result c = record { fits = byte_fits _ (sym c.in-Ok.is ∙ c.hex_byte.ensures) }
 
-pub returns-in-Value : goal.returns-in-Value
+pub returns-in-Ok : goal.returns-in-Ok
 unfolding line_from encode_hex
-returns-in-Value c =
+returns-in-Ok c =
     ap line_from (sym (hex_byte_lem _ c.if-argument-eq0.false c.if-first-eq58.true ∙ ap encode_hex
-    (sym c.hex_byte.ensures ∙ c.in-Value.is)))
+    (sym c.hex_byte.ensures ∙ c.in-Ok.is)))
 
-pub returns-in-Bad : goal.returns-in-Bad
+pub returns-in-Err : goal.returns-in-Err
 unfolding line_from encode_hex
-returns-in-Bad c =
+returns-in-Err c =
     ap line_from (sym (hex_byte_lem _ c.if-argument-eq0.false c.if-first-eq58.true ∙ ap encode_hex
-    (sym c.hex_byte.ensures ∙ c.in-Bad.is)))
+    (sym c.hex_byte.ensures ∙ c.in-Err.is)))
 
 pub returns-then-argument-eq1 : goal.returns-then-argument-eq1
 unfolding line_from encode_byte

@@ -1,4 +1,5 @@
 -- `stopbits` meets its contract. Assumes nothing.
+use Rattle.std.specs.Prelude.{Bool, Ok}
 use mathlib.Core.Path.{ap}
 use Rattle.language.specs.Meaning.{stopbits_of}
 use Rattle.line_values.specs.Inside.Line.{line_from}
@@ -7,4 +8,4 @@ use Rattle.line_values.proofs.settings.stopbits.Goals as goal
 
 pub returns : goal.returns
 unfolding line_from stopbits_of
-returns c = ap Stopbits c.is_name.ensures
+returns c = ap (λ (t : Bool). Ok (Stopbits t)) c.is_name.ensures

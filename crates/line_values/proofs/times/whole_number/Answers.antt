@@ -1,15 +1,19 @@
--- `whole_number` meets its contract: each `return` is a case of `whole`. Assumes nothing.
-use mathlib.Core.Path.{sym, ap, ◌∙◌}
-use Rattle.line_values.specs.Inside.WholeNumber.{whole}
-use Rattle.line_values.proofs.Timing.{all_read, surplus}
+-- `whole_number` meets its contract: each arm is a case of `whole`. Assumes nothing.
+use mathlib.Core.Path.{sym, ◌∙◌}
+use native.Mathlib.Omega.{arith}
+use Rattle.line_values.proofs.Timing.{time_small, all_read, surplus, no_digits}
 use Rattle.line_values.proofs.times.whole_number.Goals as goal
 
-pub returns-then-next-argument : goal.returns-then-next-argument
-returns-then-next-argument c = all_read _ (sym c.in-Value.is ∙ c.number.ensures) c.if-next-argument.true
+pub overflow_cast-result : goal.overflow_cast-result
+overflow_cast-result c =
+    let h = time_small _ (sym c.in-Ok.is ∙ c.number.ensures) in
+    omega arith
 
-pub returns-else-next-argument : goal.returns-else-next-argument
-returns-else-next-argument c = surplus _ (sym c.in-Value.is ∙ c.number.ensures) c.if-next-argument.false
+pub returns-in-Ok : goal.returns-in-Ok
+returns-in-Ok c = all_read _ (sym c.in-Ok.is ∙ c.number.ensures) c.if-read-argument.true
 
-pub returns-in-Bad : goal.returns-in-Bad
-unfolding whole
-returns-in-Bad c = ap (whole _) (sym c.in-Bad.is ∙ c.number.ensures)
+pub returns-in_default : goal.returns-in_default
+returns-in_default c = surplus _ (sym c.in-Ok.is ∙ c.number.ensures) c.if-read-argument.false
+
+pub returns-in_default-2 : goal.returns-in_default-2
+returns-in_default-2 c = no_digits _ (sym c.in_default.is ∙ c.number.ensures)

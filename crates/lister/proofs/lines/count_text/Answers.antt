@@ -10,7 +10,7 @@ pub returns-then-n-eq0 : goal.returns-then-n-eq0
 returns-then-n-eq0 c = printed_is (for_ever _ c.if-n-eq0.true) c.put.ensures
 
 pub number-requires : goal.number-requires
-number-requires c = room_is (so_often _ c.number_of.ensures c.if-n-eq0.false) c.requires
+number-requires c = room_is (so_often _ c.from.ensures c.if-n-eq0.false) c.requires
 
 pub returns : goal.returns
-returns c = printed_is (so_often _ c.number_of.ensures c.if-n-eq0.false) c.number.ensures
+returns c = printed_is (so_often _ c.from.ensures c.if-n-eq0.false) c.number.ensures

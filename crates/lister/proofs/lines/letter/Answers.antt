@@ -1,15 +1,16 @@
 -- `lister::lines::letter` meets its contract. Assumes nothing.
+use native.Mathlib.Omega.{arith}
 use Rattle.lister.proofs.Clocking.{is_second, is_minute, is_hour, is_day}
 use Rattle.lister.proofs.lines.letter.Goals as goal
 
-pub returns-then-fixed-lt2 : goal.returns-then-fixed-lt2
-returns-then-fixed-lt2 c = is_second _ c.if-fixed-lt2.true
+pub returns-in-0 : goal.returns-in-0
+returns-in-0 c = is_second _ (omega arith)
 
-pub returns-then-fixed-eq2 : goal.returns-then-fixed-eq2
-returns-then-fixed-eq2 c = is_minute _ c.if-fixed-lt2.false c.if-fixed-eq2.true
+pub returns-in-2 : goal.returns-in-2
+returns-in-2 c = is_minute _ (omega arith) (omega arith)
 
-pub returns-then-fixed-eq3 : goal.returns-then-fixed-eq3
-returns-then-fixed-eq3 c = is_hour _ c.if-fixed-lt2.false c.if-fixed-eq2.false c.if-fixed-eq3.true
+pub returns-in-3 : goal.returns-in-3
+returns-in-3 c = is_hour _ (omega arith) (omega arith) (omega arith)
 
-pub returns : goal.returns
-returns c = is_day _ c.if-fixed-lt2.false c.if-fixed-eq2.false c.if-fixed-eq3.false
+pub returns-in_default : goal.returns-in_default
+returns-in_default c = is_day _ (omega arith) (omega arith) (omega arith)

@@ -1,11 +1,7 @@
 -- `lister::text::put` meets its contract: each turn of the loop writes a byte. Assumes nothing.
-use Prim.Native.Nat.{◌-◌}
-use lib.ListN.{length, drop}
+use lib.ListN.{drop}
 use Rattle.lister.proofs.Printing.{Printing}
 use Rattle.lister.proofs.text.put.Given as goal
 
-abbrev pub invariant-loop-i : goal.invariant-loop-i
-invariant-loop-i l = Printing l.bytes l.initial.out l.at l.out l.place (drop l.i l.bytes)
-
-abbrev pub decreases-loop-i : goal.decreases-loop-i
-decreases-loop-i l = length l.bytes - l.i
+abbrev pub invariant-loop-b : goal.invariant-loop-b
+invariant-loop-b l = Printing l.bytes l.initial.out l.at l.out l.place (drop l.b-index l.bytes)

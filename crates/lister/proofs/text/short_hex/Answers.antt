@@ -1,13 +1,8 @@
 -- `lister::text::short_hex` meets its contract. Assumes nothing.
-use mathlib.Core.Path.{sym}
 use native.Mathlib.Omega.{arith}
-use lib.Seq.{length-take-le}
 use Rattle.lister.proofs.Printing.{printed_is, printed_more, stored}
 use Rattle.lister.proofs.Texts.{short_parts, front_few, front_room, digit_room}
 use Rattle.lister.proofs.text.short_hex.Goals as goal
-
-pub slice_bounds-hex-end : goal.slice_bounds-hex-end
-slice_bounds-hex-end c = sym (length-take-le _ _ (omega arith))
 
 pub hex-next-requires : goal.hex-next-requires
 hex-next-requires c =

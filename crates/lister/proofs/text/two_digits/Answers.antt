@@ -1,22 +1,19 @@
 -- `lister::text::two_digits` meets its contract. Assumes nothing.
 use Rattle.lister.proofs.Printing.{printed_is, room_is}
-use Rattle.lister.proofs.Scratch.{two_few, never, enough, first_bytes_lem}
+use Rattle.lister.proofs.Scratch.{two_few, some, inside, enough, first_bytes_lem}
 use Rattle.lister.proofs.text.two_digits.Goals as goal
 
-pub put_first-requires : goal.put_first-requires
-put_first-requires c = (
-  enough _ _ c.put_two_digits-done.ensures.0 (two_few c.args.n)
-      c.in-Next.is c.put_two_digits-done.ensures.1,
-  room_is (first_bytes_lem _ _ c.put_two_digits-done.ensures.0 (two_few c.args.n)
-      c.in-Next.is c.put_two_digits-done.ensures.1) c.requires,
-)
+pub unwrap-count-requires : goal.unwrap-count-requires
+unwrap-count-requires c = some _ _ c.put_two_digits.ensures.0 (two_few c.args.n)
 
-pub returns-in-Next : goal.returns-in-Next
-returns-in-Next c =
-    printed_is (first_bytes_lem _ _ c.put_two_digits-done.ensures.0 (two_few c.args.n)
-    c.in-Next.is c.put_two_digits-done.ensures.1) c.put_first.ensures
+pub slice_bounds-put-end : goal.slice_bounds-put-end
+slice_bounds-put-end c = enough _ _ c.put_two_digits.ensures.0 (two_few c.args.n) c.unwrap-count.ensures c.put_two_digits.ensures.1
 
-pub returns-in-NoRoom : goal.returns-in-NoRoom
-returns-in-NoRoom c =
-    absurd (never _ _ c.put_two_digits-done.ensures.0 (two_few c.args.n)
-    c.in-NoRoom.is)
+pub slice_bounds-digits-end : goal.slice_bounds-digits-end
+slice_bounds-digits-end c = inside _ _ c.put_two_digits.ensures.0 (two_few c.args.n) c.unwrap-count.ensures c.put_two_digits.ensures.1
+
+pub put-requires : goal.put-requires
+put-requires c = room_is (first_bytes_lem _ _ c.put_two_digits.ensures.0 (two_few c.args.n) c.unwrap-count.ensures c.put_two_digits.ensures.1) c.requires
+
+pub returns : goal.returns
+returns c = printed_is (first_bytes_lem _ _ c.put_two_digits.ensures.0 (two_few c.args.n) c.unwrap-count.ensures c.put_two_digits.ensures.1) c.put.ensures

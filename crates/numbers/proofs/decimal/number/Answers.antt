@@ -1,49 +1,40 @@
 -- `number` meets its contract: each turn of the loop is a law on its state, `Reading`. Assumes nothing.
-use mathlib.Core.Path.{◌≡◌, refl, sym, ◌∙◌}
-use borrow.Author.Tests.{lt-ltb, le-ltb}
+use mathlib.Core.Path.{sym, ◌∙◌}
 use native.Mathlib.Omega.{arith}
-use Rattle.numbers.specs.Number.{digits_ended, number_at}
-use Rattle.numbers.proofs.Reading.{begun, at_end_lem, stopped, too_long, too_large, taken}
+use Rattle.numbers.proofs.Digit.{shown}
+use Rattle.numbers.proofs.Reading.{begun, nothing_read, number_read, too_long, too_large, taken}
 use Rattle.numbers.proofs.decimal.number.Goals as goal
-use Rattle.numbers.proofs.decimal.number.Goals.{Left-loop-i, else-loop-i-test, then-loop-i-test+then-d-ge10}
+use Rattle.numbers.proofs.decimal.number.Goals.{then-most-got-via-then-most-got, then-most-got-via-else-most-got+then-from-value}
 
--- where the loop has been left, at the end of the text or at a byte that is no digit
-left : (c : Left-loop-i)
-    → let at_entry_lem = c.before.before.before in
-    number_at at_entry_lem.args.most at_entry_lem.args.limit at_entry_lem.args.s.now at_entry_lem.args.at
-    ≡ digits_ended c.loop-i.n c.loop-i.v c.loop-i.i
-left c =
-    let w = c.loop-i.invariant.1 in
-    elim c.loop-i-test.branch [
-      | else-loop-i-test a ↦ at_end_lem w a.loop-i-test.false
-      | then-loop-i-test+then-d-ge10 a ↦ stopped w a.loop-i-test.true (a.wide-d.ensures ∙ a.digit.ensures) a.if-d-ge10.true
+pub loop-d-init : goal.loop-d-init
+loop-d-init c = begun
+
+pub returns-then-most-got : goal.returns-then-most-got
+returns-then-most-got c =
+    let there = shown _ _ (sym c.in-Some.is ∙ c.decimal.ensures) in
+    elim c.then-most-got.branch [
+      | then-most-got-via-then-most-got w ↦ too_long c.loop-d.invariant there w.if-most-got.true
+      | then-most-got-via-else-most-got+then-from-value w ↦
+          too_large c.loop-d.invariant there w.if-most-got.false c.from.ensures c.from-in-Some.ensures (omega (arith, w.if-from-value.true, w.from-else-most-got.ensures))
     ]
 
-pub loop-i-init : goal.loop-i-init
-loop-i-init c = (refl, begun)
+pub overflow_add-got : goal.overflow_add-got
+overflow_add-got c =
+    let there = shown _ _ (sym c.in-Some.is ∙ c.decimal.ensures) in
+    omega (arith, there.inside)
 
-pub returns-then-most-n : goal.returns-then-most-n
-returns-then-most-n c =
-    sym (too_long c.loop-i.invariant.1 (omega arith) (c.wide-d.ensures ∙ c.digit.ensures)
-    (omega arith) (omega arith))
+pub loop-d-smaller : goal.loop-d-smaller
+loop-d-smaller c =
+    let there = shown _ _ (sym c.in-Some.is ∙ c.decimal.ensures) in
+    omega (arith, there.inside)
 
-pub returns-then-top-next : goal.returns-then-top-next
-returns-then-top-next c =
-    sym (too_large c.loop-i.invariant.1 (omega arith) (c.wide-d.ensures ∙ c.digit.ensures)
-    (omega arith) (omega arith) (omega arith))
+pub loop-d-preserved : goal.loop-d-preserved
+loop-d-preserved c =
+    let there = shown _ _ (sym c.in-Some.is ∙ c.decimal.ensures) in
+    taken c.loop-d.invariant there (omega arith) c.from.ensures c.from-in-Some.ensures (omega (arith, c.from-else-most-got.ensures))
 
-pub loop-i-preserved : goal.loop-i-preserved
-loop-i-preserved c =
-    let i = c.loop-i.invariant in (
-      i.0,
-      taken i.1 (omega arith) (c.wide-d.ensures ∙ c.digit.ensures) (omega arith)
-          (omega arith) (omega arith),
-    )
+pub returns-then-got-at : goal.returns-then-got-at
+returns-then-got-at c = nothing_read c.loop-d.invariant (sym c.in_default.is ∙ c.decimal.ensures) c.if-got-at.true
 
-pub returns-then-n-gt0 : goal.returns-then-n-gt0
-unfolding digits_ended
-returns-then-n-gt0 c = sym (left (goal.at.returns-then-n-gt0 c).Left-loop-i ∙ simp (lt-ltb _ _ c.if-n-gt0.true))
-
-pub returns : goal.returns
-unfolding digits_ended
-returns c = sym (left (goal.at.returns c).Left-loop-i ∙ simp (le-ltb _ _ c.if-n-gt0.false))
+pub returns-else-got-at : goal.returns-else-got-at
+returns-else-got-at c = number_read c.loop-d.invariant (sym c.in_default.is ∙ c.decimal.ensures) c.if-got-at.false

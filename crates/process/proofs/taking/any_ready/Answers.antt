@@ -1,30 +1,14 @@
--- `process::taking::any_ready` meets its contract: the processes from i on decide. Assumes nothing.
-use mathlib.Core.Path.{◌≡◌, sym, ◌∙◌}
-use native.Mathlib.Omega.{arith}
-use lib.ListN.{length}
+-- `process::taking::any_ready` meets its contract. Assumes nothing.
+use mathlib.Core.Path.{◌∙◌}
 use borrow.Author.Rules.{rules}
+use Rattle.std.proofs.Common.{tests}
+use Rattle.std.proofs.lemmas.Iterator.{YieldsList-from_slice}
+use Rattle.std.proofs.lemmas.Iterator.Search.{any_from_yields_List}
 use Rattle.process.specs.Waiting.{ready}
-use Rattle.process.proofs.Loops.{any_here, any_past, any_end}
+use Rattle.process.proofs.Loops.{any_is}
 use Rattle.process.proofs.taking.any_ready.Goals as goal
-
-pub returns-then-is_ready : goal.returns-then-is_ready
-returns-then-is_ready c =
-    let a = c.args.ps in
-    let n : length a ≡ 8 = search rules in
-    sym (c.loop-i.invariant.1 ∙ any_here ready a c.loop-i.i _ (omega arith) (sym c.is_ready.ensures
-    ∙ c.if-is_ready.true))
-
-pub loop-i-preserved : goal.loop-i-preserved
-loop-i-preserved c =
-    let a = c.args.ps in
-    let n : length a ≡ 8 = search rules in (
-      omega arith,
-      c.loop-i.invariant.1 ∙ any_past ready a c.loop-i.i _ (omega arith)
-          (sym c.is_ready.ensures ∙ c.if-is_ready.false),
-    )
 
 pub returns : goal.returns
 returns c =
-    let a = c.args.ps in
-    let n : length a ≡ 8 = search rules in
-    sym (c.loop-i.invariant.1 ∙ any_end ready a c.loop-i.i (omega arith))
+    let ps = c.args.ps in
+    any_from_yields_List ready _ _ _ c.any.ensures.ran (YieldsList-from_slice ps cc) (λ x b q k. search (rules, tests)) ∙ any_is ready ps

@@ -1,7 +1,10 @@
--- `runner::turn::perform` meets its contract: each arm is a law of `Written`. Assumes nothing.
-use native.Mathlib.Omega.{arith}
-use Rattle.runner.proofs.Written.{sent_fits, logged_fits, send_performs, log_performs, other_performs}
-use borrow.Enum.Refused.{opened}
+-- `runner::turn::perform` meets its contract. Assumes nothing.
+use Rattle.std.proofs.Common.{arith}
+use Rattle.std.proofs.lemmas.Grind.{common_steps}
+use Rattle.runner.specs.Writing.{writes_for}
+use Rattle.statement.specs.Saying.{counted_by}
+use lib.Seq.{set-get_or}
+use Rattle.runner.proofs.Written.{sent_fits, logged_fits}
 use Rattle.runner.proofs.turn.perform.Goals as goal
 
 pub send-requires : goal.send-requires
@@ -13,19 +16,13 @@ pub log-n-requires : goal.log-n-requires
 log-n-requires c = ((logged_fits c.requires.0 c.in-Log.is).inside, omega (arith, c.requires.2))
 
 pub returns-in-Send : goal.returns-in-Send
-returns-in-Send c =
-    let a = c.args in
-    send_performs a.pool.now a.r a.at a.counts.now a.out.now
-    c.in-Send.is c.send.ensures c.said.ensures
+unfolding writes_for counted_by
+returns-in-Send c = grind (arith, common_steps, set-get_or)
 
 pub returns-in-Log : goal.returns-in-Log
-returns-in-Log c =
-    let a = c.args in
-    log_performs a.pool.now a.r a.at a.counts.now a.out.now
-    c.in-Log.is c.log-n.ensures c.counted.ensures c.said-in-Log.ensures
+unfolding writes_for counted_by
+returns-in-Log c = grind (arith, common_steps, set-get_or)
 
 pub returns-in_default : goal.returns-in_default
-returns-in_default c =
-    let a = c.args in
-    other_performs a.pool.now a.r a.at a.counts.now a.out.now
-    a.cell (opened c.in_default.in_default-own.keys3) c.said-in_default.ensures
+unfolding writes_for counted_by
+returns-in_default c = grind (arith, common_steps, set-get_or)

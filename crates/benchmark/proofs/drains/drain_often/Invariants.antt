@@ -1,8 +1,0 @@
--- `benchmark::drains::drain_often` ends: what is left falls. Assumes nothing.
-use Rattle.benchmark.proofs.drains.drain_often.Given as goal
-
-abbrev pub invariant-loop-left : goal.invariant-loop-left
-invariant-loop-left l = Unit {0}
-
-abbrev pub decreases-loop-left : goal.decreases-loop-left
-decreases-loop-left l = l.left

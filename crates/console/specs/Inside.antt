@@ -1,2 +1,0 @@
--- What the contracts of `console` cite. Nothing here has to be believed of the box.
-pub mod Counts

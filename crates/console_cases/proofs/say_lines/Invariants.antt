@@ -1,8 +1,0 @@
--- `console_cases::say_lines` ends: what is left falls. Assumes nothing.
-use Rattle.console_cases.proofs.say_lines.Given as goal
-
-abbrev pub invariant-loop-left : goal.invariant-loop-left
-invariant-loop-left g l = Unit {0}
-
-abbrev pub decreases-loop-left : goal.decreases-loop-left
-decreases-loop-left g l = l.left

@@ -1,7 +1,0 @@
--- `process::Process::read` meets its contract. Assumes nothing.
-use mathlib.Core.Path.{ap, ◌∙◌}
-use Rattle.process.specs.Waiting.{with_wait}
-use Rattle.process.proofs.Process.read.Goals as goal
-
-pub returns : goal.returns
-returns c = c.with.ensures ∙ ap (with_wait c.args.self) c.read.ensures
