@@ -1,12 +1,13 @@
 -- What the tests of data decide. Assumes nothing.
 use Rattle.std.specs.Prelude.{Some, None}
 use Prim.Native.Nat.{ℕ, ◌+◌, ◌*◌, ◌≤◌, ◌<◌}
-use mathlib.Core.Path.{◌≡◌, sym, ◌∙◌}
+use mathlib.Core.Path.{◌≡◌, refl, sym, ◌∙◌}
 use mathlib.Core.Bool.{Bool, true, false, ◌&&◌}
 use mathlib.Core.List.{List}
 use native.Mathlib.Omega.{arith}
 use lib.ListN.{length}
 use borrow.Author.Tests.{eq-eqb, ne_eqb, le-leb, lt-leb}
+use Rattle.std.specs.Bool.{then_some}
 use Rattle.reader.specs.Bytes.{all}
 use Rattle.reader.proofs.Tests.{and_false}
 use Rattle.language.specs.declared.Span.{Span}
@@ -38,14 +39,15 @@ module _ (room : ℕ) (bs : List ℕ) (bytes : all is_byte bs ≡ true) where
 
 -- ---- data that begin at a place, and are right
 
+then_is : (t : Bool) (x : ℕ) → then_some t x ≡ reaches t x
+then_is true x = refl
+then_is false x = refl
+
 module _ (s : Span) (at : ℕ) (right : Bool) where
-  pub elsewhere : (s.from ≡ at → ⊥) → None ≡ reaches (follows at s && right) (at + s.count)
+  pub elsewhere : (s.from ≡ at → ⊥) → {t : Bool} (x : ℕ) → t ≡ false → then_some t x ≡ reaches (follows at s && right) (at + s.count)
   unfolding follows
-  elsewhere h = rw (ne_eqb s.from at h)
+  elsewhere h x e = rw (e, ne_eqb s.from at h)
 
-  pub not_right : right ≡ false → None ≡ reaches (follows at s && right) (at + s.count)
-  not_right e = rw (e, and_false (follows at s))
-
-  pub here_right : s.from ≡ at → {f n : ℕ} → f ≡ s.from → n ≡ s.count → right ≡ true → Some (f + n) ≡ reaches (follows at s && right) (at + s.count)
+  pub here : s.from ≡ at → {t : Bool} {f n : ℕ} → f ≡ s.from → n ≡ s.count → t ≡ right → then_some t (f + n) ≡ reaches (follows at s && right) (at + s.count)
   unfolding follows
-  here_right h {f} {n} from count e = let k : f + n ≡ at + s.count = omega arith in rw (eq-eqb s.from at h, e, k)
+  here h {t} {f} {n} from count e = let k : f + n ≡ at + s.count = omega arith in rw (eq-eqb s.from at h, e, k) (then_is right (at + s.count))

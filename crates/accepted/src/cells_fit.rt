@@ -22,6 +22,7 @@ fn data_right(data: &[u8], room: usize) -> bool
 }
 
 // The bytes of a cell's data.
+// Also in lister and runner: shared it would be public, so total, with two tests more each time, no plainer.
 fn data_of(s: Span, pool: &Pool) -> &[u8]
     requires { s.from + s.count ≤ pool_places }
     ensures { result.now ≡ data_at pool.now s }
@@ -35,11 +36,7 @@ fn after(s: Span, at: usize, right: bool) -> Option<usize>
     ensures { result ≡ reaches (follows at s && right) (at + s.count) }
 {
     let from = usize::from(s.from);
-    if from == at && right {
-        Some(from + usize::from(s.count))
-    } else {
-        None
-    }
+    (from == at && right).then_some(from + usize::from(s.count))
 }
 
 // Where the data of a cell end, `at` being where those before it end, if it says a statement that a line can have.
@@ -47,11 +44,10 @@ fn after_word(w: u32, pool: &Pool, at: usize) -> Option<usize>
     ensures { result ≡ word_reach pool.now at w }
 {
     match decode(w) {
-        Cell::Nothing => None,
+        Cell::Nothing | Cell::Unknown => None,
         Cell::Send(s) => after(s, at, data_right(data_of(s, pool), SEND_ROOM)),
         Cell::WaitData(s) => after(s, at, data_right(data_of(s, pool), WAIT_ROOM)),
         Cell::Log(s) => after(s, at, log_right(data_of(s, pool))),
-        Cell::Unknown => None,
         _ => Some(at),
     }
 }

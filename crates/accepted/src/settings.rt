@@ -7,8 +7,8 @@ ghost use Rattle.language.specs.Table.{letters_of};
 ghost use Rattle.accepted.specs.Inside.Heads.{first_empty, extension_fits, settings_fit, settings_in};
 
 use crate::zeros::all_from;
-use language::Heads;
 use language::extension::is_capital;
+use language::{Heads, LETTERS, OMITS};
 use words::is_named;
 
 // How many letters stand before the first zero.
@@ -33,13 +33,13 @@ fn extension_fits(extension: &[u8]) -> bool
     ensures { result ≡ extension_fits «extension».now }
 {
     let count = letters(extension);
-    if count < 1 || 3 < count {
+    if count < 1 || LETTERS < count {
         return false;
     }
     all_capital(&extension[..count]) && all_from(extension, count, &0)
 }
 
-// Whether the byte of ENCODE is zero where it is not set.
+// Whether the byte of ENCODE is zero where it is not set. A flag and a byte, as Heads has them, whose fields may not change.
 fn encode_fits(encodes: bool, encode: u8) -> bool
     ensures { result ≡ cond encodes true (eqb encode 0) }
 {
@@ -51,7 +51,7 @@ pub(crate) fn settings_fit(heads: Heads) -> bool
     ensures { result ≡ settings_fit heads }
 {
     let omits = usize::from(heads.omits);
-    omits <= 10
+    omits <= OMITS
         && encode_fits(heads.encodes, heads.encode)
         && all_from(&heads.omit, omits, &0)
         && extension_fits(&heads.extension)

@@ -17,6 +17,7 @@ pub struct Drains {
     pub count: u64,
 }
 
+// The buffer is an array, as the box has it: what is lent to it is never grown.
 pub(crate) fn drain_all(table: &Table, s: State, counts: &mut Counts) -> Drains {
     let mut out = [0u8; DRAIN];
     let mut state = s;

@@ -3,11 +3,11 @@ use super::ROOM;
 use super::often::sum;
 use events::receiving::receive_run;
 use events::tick_run;
-use language::{Heads, Pool};
+use language::Table;
 use process::taking::any_ready;
 use process::{Gulped, State};
 
-// Every byte of an input may be recorded twice.
+// Every byte of an input may be recorded twice. An array, as the box has it: what is lent to it is never grown.
 const RECORDS: usize = 2 * ROOM;
 
 fn taken(answer: Gulped) -> u64 {
@@ -20,11 +20,11 @@ fn left_by(s: State, record: u8) -> u64 {
 }
 
 // Each time from the same state. What the last one left is added, since the compiler drops what nobody reads.
-pub(crate) fn bytes_often(pool: &Pool, heads: Heads, s: State, input: &[u8], count: u64) -> u64 {
+pub(crate) fn bytes_often(table: &Table, s: State, input: &[u8], count: u64) -> u64 {
     let mut records = [0u8; RECORDS];
     let mut after = s;
     let all = sum(0..count, |_| {
-        let e = receive_run(pool, heads, s, input, &mut records);
+        let e = receive_run(&table.pool, table.heads, s, input, &mut records);
         after = e.state;
         taken(e.answer)
     });

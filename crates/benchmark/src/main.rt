@@ -25,7 +25,7 @@ mod often;
 mod tables;
 mod taking;
 
-// One byte more than a text may have is enough to know that it is too long.
+// One byte more than a text may have shows that it is too long. The box never holds a text: each program says it.
 const ROOM: usize = TEXT + 1;
 
 #[derive(Clone, Copy, PartialEq, Eq)]
@@ -77,12 +77,12 @@ struct Job<'a> {
     input: &'a [u8],
 }
 
-// The events on a script that is quiet.
+// The events on a script that is quiet. Here, and in the three below, `What` is asked again: each takes no more than it
+// needs (a text, a table, a start, a quiet script), and closures in its place would be no plainer.
 fn on_quiet(job: Job, table: &Table, s: State) -> u64 {
-    let pool = &table.pool;
     match job.what {
-        What::Byte => taking::byte_often(pool, table.heads, s, job.input, job.count),
-        What::Bytes => gulping::bytes_often(pool, table.heads, s, job.input, job.count),
+        What::Byte => taking::byte_often(table, s, job.input, job.count),
+        What::Bytes => gulping::bytes_often(table, s, job.input, job.count),
         What::Ticks(ticks) => gulping::ticks_often(s, ticks, job.count),
         What::Clock => taking::clock_often(s, job.count),
         What::Level => taking::level_often(s, job.count),
@@ -119,6 +119,7 @@ fn on_table(rt: HostRuntime, job: Job, table: &Table) -> io::Result<()> {
     }
 }
 
+// Each program spells a refusal: the core has no printing.
 fn on_text(rt: HostRuntime, job: Job, text: &[u8]) -> io::Result<()> {
     if job.what == What::Compile {
         return say_sum(rt, tables::compile_often(text, job.count));
@@ -136,7 +137,7 @@ fn on_text(rt: HostRuntime, job: Job, text: &[u8]) -> io::Result<()> {
     }
 }
 
-// The number of a word; 0 where it is none.
+// The number of a word; 0 where it is none: N of 0 tells the usage, COUNT of 0 is no tick, which may not change.
 fn value(rt: HostRuntime, place: usize) -> u32 {
     let mut buffer = [0u8; WORD];
     let text = word(rt, place, &mut buffer).unwrap_or(b"");

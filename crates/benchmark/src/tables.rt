@@ -5,7 +5,7 @@ use language::{CELL_PLACES, LISTING, Table};
 use lister::list;
 use runner::starting::{idle, start};
 
-// The stretch of a text, or the line of its fault.
+// The stretch of a text, or the line of its fault: one number for both, since what is printed may not change.
 fn stretch(text: &[u8]) -> u64 {
     match compile(text).answer {
         Ok(stretch) => u64::from(stretch),
@@ -28,11 +28,13 @@ pub struct Listings {
     pub one: u64,
 }
 
+// The lister writes into a lent slice, as in the box.
 pub(crate) fn list_often(table: &Table, count: u64) -> Listings {
     let mut out = [0u8; LISTING];
     let mut one = 0u64;
     let all = sum(0..count, |_| {
         let listed = list(&table.cells, &table.pool, table.heads, &mut out);
+        // 0 for a refusal: what is printed may not change.
         one = listed.map_or(0, |n| n as u64);
         one
     });

@@ -3,7 +3,8 @@ use console::parts::{first, place_of, rest_from};
 use numbers::decimal::number;
 use words::word_end;
 
-// The largest place there is: it stands for every number of the line that is larger than 4,294,967,295.
+// The largest place there is: it stands for every number of the line over 4,294,967,295, and for one that is missing.
+// No Option: what the cases print of such places may not change.
 const FAR: usize = usize::MAX;
 
 #[derive(Clone, Copy)]

@@ -7,6 +7,7 @@ pub(crate) fn say(rt: HostRuntime, text: &[u8]) {
     let _ = saying::say(rt, text);
 }
 
+// A print for each number: each that fails is told, and what is told may not change.
 pub(crate) fn print(rt: HostRuntime, what: impl Display + Drop) {
     let _ = saying::print(rt, what);
 }

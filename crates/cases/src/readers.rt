@@ -5,6 +5,7 @@ use hex_data::{HexFault, hex_byte, hex_count, hex_into};
 use numbers::decimal::{number, pair};
 use reader::bytes;
 
+// No digit is printed as 16: what is printed may not change.
 fn byte(rt: HostRuntime, b: u8) {
     let digit = bytes::digit(b).unwrap_or(16);
     print(rt, format_args!(": digit {digit}"));

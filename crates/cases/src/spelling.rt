@@ -6,7 +6,7 @@ use language::TEXT;
 use numbers::decimal::number;
 use std::alloc::{AllocError, Global};
 
-// One byte more than a text may have is enough to know that it is too long.
+// One byte more than a text may have shows that it is too long. The box never holds a text: each program says it.
 const ROOM: usize = TEXT + 1;
 
 // So many of a byte, and what follows them in the line.

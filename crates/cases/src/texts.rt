@@ -33,6 +33,7 @@ fn say_table(rt: HostRuntime, table: &Table) {
     say_heads(rt, table.heads);
 }
 
+// Each program spells a refusal: the core has no printing.
 fn answer(rt: HostRuntime, text: &[u8]) {
     let compiled = compile(text);
     match compiled.answer {

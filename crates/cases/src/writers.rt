@@ -14,6 +14,7 @@ fn called<F: FnOnce(&mut [u8]) -> Option<usize>>(rt: HostRuntime, out: &mut [u8]
     show(rt, out);
 }
 
+// As in `readers`, a line begins with the name, so it is tested and not matched.
 pub(crate) fn put(rt: HostRuntime, mut asked: Asked<'_>) {
     let text = asked.text();
     if asked.calls(b"put decimal") {

@@ -21,6 +21,7 @@ const LOG: u32 = LOG_ROOM as u32;
 // ---- the arguments that a line can have
 
 // Data within the pool, of as many bytes as a line can have.
+// No then_some here and in count and signal: it was tried, and each cast, made before the test, asked a bound of its own.
 #[tactic(auto, unfolding(language::specs::Cell::span_right))]
 fn data(argument: u32, low: u32, high: u32) -> Option<Span>
     ensures { result ≡ then_some (span_right low high (span_of argument)) (span_of argument) }
@@ -35,7 +36,7 @@ fn data(argument: u32, low: u32, high: u32) -> Option<Span>
     None
 }
 
-// A count of passes or of bytes.
+// A count of passes or of bytes; an `if`, as in data.
 fn count(argument: u32) -> Option<u16>
     ensures { result ≡ then_some (leb argument 60000) argument }
 {
@@ -55,6 +56,7 @@ fn is_time(argument: u32) -> bool
 }
 
 // A unit that is fixed is in its range, any other is 0.
+// A flag beside its value, as the definition unit_right has them, which may not change.
 #[tactic(auto, unfolding(language::specs::Cell::unit_right, language::specs::Clock::within))]
 fn unit_right(fixed: bool, low: u8, high: u8, value: u8) -> bool
     ensures { result ≡ unit_right fixed (range low high) value }
@@ -91,6 +93,7 @@ fn clock(argument: u32) -> Option<Clock>
     fixed_right(c).then_some(c)
 }
 
+// A signal and a level; an `if`, as in data.
 fn signal(argument: u32) -> Option<Level>
     ensures { result ≡ then_some (ltb argument 10) (level (argument / 2) (eqb (argument % 2) 1)) }
 {

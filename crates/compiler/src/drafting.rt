@@ -6,7 +6,7 @@ ghost use Rattle.compiler.specs.Inside.Drafting.{IsDraft};
 
 use language::{CELL_PLACES, Compiled, Heads, LOOP_PLACES, POOL_PLACES, Refusal, Table, TextFault};
 
-/// Where the lines stop: a fault, with the line that it names.
+/// Where the lines stop: a fault, with the line that it names, as in Refusal, whose numbers may not change.
 #[derive(Clone, Copy, PartialEq, Eq, Debug)]
 pub struct Stop {
     pub fault: TextFault,

@@ -16,6 +16,7 @@ use line_meaning::Data;
 use line_values::Line;
 use writer::put_bytes;
 
+// HasRoom stands in three contracts and is no invariant: the 512th statement uses the last cell.
 impl Drafting {
     /// The line of the innermost open loop.
     pub(crate) fn innermost(&self) -> Option<u32>

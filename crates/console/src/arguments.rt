@@ -4,10 +4,10 @@ ghost use Rattle.std.specs.Prelude.{◌≤◌, length, IfSome};
 use std::env::FillError;
 use std::rt::Env;
 
-// A longer word is not read.
+// A longer word is not read: std fills a buffer that it is lent, and asking for words must not fail for memory.
 pub const WORD: usize = 4096;
 
-// What they ask for.
+// What they ask for. Three ways that a program parts by one match: a Result of an Option would be no plainer.
 #[derive(Clone, Copy)]
 pub enum Given {
     // `--help`.

@@ -78,10 +78,12 @@ impl<'a, R: Read> Lines<'a, R> {
         Ok(is_line.then_some(self.line.as_slice()))
     }
 
+    // That no LF is held stands in each contract and is no invariant: between read_part and take_end one is.
     // Whether there is a line. One that does not fit into a part is too long, and its last part is kept.
     fn read_line(&mut self) -> Result<bool, LineFault>
         ensures { OnOk result (All (λ byte. byte ≢ 10) self.new.line.items) }
     {
+        // A proved loop has to end, and nothing says that the input does.
         for parts in 0..u64::MAX {
             let n = self.read_part()?;
             if n < BLOCK || self.line.ends_with(b"\n") {

@@ -8,7 +8,7 @@ pub fn first(bytes: &[u8], n: usize) -> &[u8]
     &bytes[..n.min(bytes.len())]
 }
 
-// Those after the first n; none if there are not so many.
+// Those after the first n; none if there are not so many. As `rest` of words: this library stands on no crate of the box.
 pub fn rest_from(bytes: &[u8], n: usize) -> &[u8]
     ensures { result.now ≡ drop n bytes.now }
 {
@@ -16,6 +16,7 @@ pub fn rest_from(bytes: &[u8], n: usize) -> &[u8]
 }
 
 // The place of a byte; where it is not there, the end.
+// No Option: what its callers cut at it goes on to the end, and the clauses of `place_of` may not change.
 fn place_in(bytes: &[u8], byte: u8) -> usize
     ensures within { result ≤ length bytes.now }
     ensures before { (k : ℕ) → k < result → get_or bytes.now k 0 ≢ byte }

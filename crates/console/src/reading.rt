@@ -17,7 +17,8 @@ pub fn open(rt: HostRuntime, path: &[u8]) -> io::Result<File> {
     told(rt, path, open_named(rt, path))
 }
 
-// No more than so many bytes are read.
+// No more than so many bytes are read. Each function that hands them out tells it: every caller would have to unwrap a
+// type of its own, which is no plainer.
 fn read_up_to<R: Read>(rt: HostRuntime, from: &mut R, most: usize) -> io::Result<Vec<u8>>
     ensures { IfOk result (λ bytes. vec_len bytes ≤ most) }
 {

@@ -41,7 +41,7 @@ pub fn say(rt: HostRuntime, text: &[u8]) -> io::Result<()> {
     tell(rt, &rt.stdout(), text)
 }
 
-// On standard output, whatever can be printed.
+// On standard output, whatever can be printed. No contract: std promises nothing of what is printed.
 pub fn print(rt: HostRuntime, what: impl Display + Drop) -> io::Result<()> {
     told(rt, b"standard output", rt.print(what))
 }

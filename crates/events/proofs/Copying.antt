@@ -1,6 +1,6 @@
 -- What the tests of recording decide: a byte that is one of some, and how often it is recorded. Assumes nothing.
 use Prim.Native.Nat.{ℕ, ◌+◌, ◌≤◌, ◌<◌}
-use mathlib.Core.Path.{◌≡◌, refl, sym, ◌∙◌}
+use mathlib.Core.Path.{◌≡◌, sym, ◌∙◌}
 use mathlib.Core.Bool.{Bool, true, false, ◌||◌}
 use mathlib.Core.List.{List}
 use native.Mathlib.Numerals.{add-one}
@@ -41,27 +41,6 @@ module _ {bytes : List ℕ} {n b i : ℕ} (w : Seeking bytes n b i) where
     seek_on e = record { whole = w.whole ∙ rw (drop-cons (take n bytes) i 0 here, get_or-take n bytes i 0 more, ne_eqb (get_or bytes i 0) b e, add-one i) }
 
 module _ (h : Heads) (b : ℕ) where
-  pub none_paused : 0 ≡ times_recorded h true b
-  unfolding times_recorded
-  none_paused = refl
-
-  pub none_omitted : one_of (take h.omits h.omit) b ≡ true → 0 ≡ times_recorded h false b
-  unfolding times_recorded
-  none_omitted e = rw e
-
-  module _ (n : one_of (take h.omits h.omit) b ≡ false) where
-    pub twice_encoded : h.encodes ≡ true → h.encode ≡ b → 2 ≡ times_recorded h false b
-    unfolding times_recorded
-    twice_encoded e f = rw (n, e, eq-eqb h.encode b f)
-
-    pub once_other : h.encodes ≡ true → (h.encode ≡ b → ⊥) → 1 ≡ times_recorded h false b
-    unfolding times_recorded
-    once_other e f = rw (n, e, ne_eqb h.encode b f)
-
-    pub once_plain : h.encodes ≡ false → 1 ≡ times_recorded h false b
-    unfolding times_recorded
-    once_plain e = rw (n, e)
-
   -- twice at the most
   pub times_few : (paused : Bool) → times_recorded h paused b ≤ 2
   unfolding times_recorded

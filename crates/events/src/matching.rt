@@ -10,6 +10,7 @@ use language::POOL_PLACES;
 
 // At each number of bytes matched, the number that still is where the next byte is another. At 0, which no mismatch reads, how many of them were made:
 // those of 0 and of 1 are 0, and need no making.
+// The count is in the table and in no struct beside: all processes share one table, and each is lent its places of it.
 pub(crate) type Links = [u16; POOL_PLACES];
 
 // How many bytes of the data are matched, and after how many of a run.
@@ -18,6 +19,9 @@ pub(crate) struct Matched {
     pub(crate) matched: usize,
     pub(crate) count: usize,
 }
+
+// The bounds are in each contract below: a struct of the data and what is matched, with a ghost field, was tried; it is made
+// anew at each step, and each clause speaks of its entry: no plainer.
 
 // The bytes matched after b, where k were matched before it: a mismatch goes from link to link to what still matches.
 fn followed(want: &[u8], links: &[u16], k: usize, b: u8) -> usize
@@ -76,6 +80,7 @@ pub(crate) fn advanced(want: &[u8], k: usize, b: u8) -> usize
 }
 
 // As far as a run goes before a mismatch that needs links.
+// Its own loop beside through_links: it has no links yet and stops where one is needed, so one for both is no plainer.
 fn unlinked(want: &[u8], from: usize, run: &[u8]) -> Matched
     requires { from ≤ length want.now }
     ensures { (matched_on want.now from run.now
@@ -158,10 +163,7 @@ pub(crate) fn matched_run(want: &[u8], from: usize, run: &[u8], kept: &mut [u16]
 {
     let first = unlinked(want, from, run);
     let at = first.count;
-    if first.matched == want.len() {
-        return first;
-    }
-    if at == run.len() {
+    if first.matched == want.len() || at == run.len() {
         return first;
     }
     let rest = &run[at..];

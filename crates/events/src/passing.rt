@@ -1,5 +1,5 @@
 // A run of bytes on the waits: how many are taken up to the first that leaves a process ready, and what they make of each wait.
-ghost use Rattle.std.specs.Prelude.{◌≡◌, true, false, map, ◌≤◌, length, take};
+ghost use Rattle.std.specs.Prelude.{◌≡◌, ℕ, List, true, false, map, ◌≤◌, length, take};
 ghost use Rattle.process.specs.declared.Wait.TheVariants.{Bytes, Data};
 ghost use Rattle.process.specs.Waiting.{ready, awaited, progress_right, range_right};
 ghost use Rattle.process.specs.State.{any};
@@ -20,6 +20,7 @@ pub(crate) struct Passed {
 }
 
 // The processes after some bytes, and how many they were; `again`: some processes have taken more, and all are to take so many.
+// A flag and no Result, no plainer: the count holds both ways, and the second pass is the same call.
 #[derive(Clone, Copy)]
 pub(crate) struct Pass {
     pub(crate) processes: [Process; PROCESS_PLACES],
@@ -53,8 +54,8 @@ fn ended(n: usize, all: usize, p: Process) -> Passed
 }
 
 // "WAIT BYTE likewise for bytes". A wait for none ends at the first byte, as one for one does.
-fn bytes_passed(n: u16, p: Process, pool: &Pool, run: &[u8]) -> Passed
-    ensures { result ≡ passed_by pool.now p.place p.end run.now (Bytes n) }
+fn bytes_passed(n: u16, p: Process, run: &[u8]) -> Passed
+    ensures { (pool : List ℕ) → result ≡ passed_by pool p.place p.end run.now (Bytes n) }
 {
     let all = run.len();
     let left = usize::from(n);
@@ -93,7 +94,7 @@ fn wait_passed(p: Process, pool: &Pool, run: &[u8], kept: &mut [u16]) -> Passed
         × Kept (data_of pool.now p.wait) kept.new }
 {
     match p.wait {
-        Wait::Bytes(n) => bytes_passed(n, p, pool, run),
+        Wait::Bytes(n) => bytes_passed(n, p, run),
         Wait::Data(m) => data_passed(m, p, pool, run, kept),
         wait => Passed {
             wait,
@@ -115,6 +116,8 @@ fn places_for(w: Wait, left: usize) -> usize
 }
 
 // One process after the other, each no farther than those before it. The links of each stand behind those of the one before it.
+// By its number, which an iterator would count too: it is the place in `next`, and tells whether one came before.
+// That none is ready is asked and in no type, no plainer: each event tests it once, and answers Busy.
 fn pass_each(ps: [Process; PROCESS_PLACES], pool: &Pool, run: &[u8], links: &mut [u16]) -> Pass
     requires { (all range_right ps ≡ true) × (any ready ps ≡ false) × KeptFrom pool.now links.old 0 ps }
     ensures { Passes pool.now run.now ps result

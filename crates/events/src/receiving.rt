@@ -15,7 +15,7 @@ use language::{Heads, OMIT_PLACES, POOL_PLACES, Pool};
 use process::taking::any_ready;
 use process::{Copies, Event, Gulp, Process, Progress, RunRefusal, State, Wait};
 
-// The data of a wait.
+// The data of a wait. As data_of of accepted, of a Progress: see there.
 pub(crate) fn awaited_data(pool: &Pool, m: Progress) -> &[u8]
     requires { m.from + m.count ≤ pool_places }
     ensures { (result.now ≡ awaited pool.now m) × (length result.now ≡ m.count) }

@@ -25,21 +25,16 @@ fn is_one_of(bytes: &[u8], count: usize, b: u8) -> bool
 }
 
 // How often a byte is recorded: "not at all if paused or in OMIT; in all other cases twice if it is the ENCODE byte".
+#[tactic(auto, unfolding(crate::specs::Recording::times_recorded))]
 pub(crate) fn recorded(heads: Heads, paused: bool, b: u8) -> u8
     ensures { result ≡ times_recorded heads paused b }
 {
-    if paused {
-        return 0;
-    }
     let omit = heads.omit;
-    if is_one_of(&omit, heads.omits as usize, b) {
+    if paused || is_one_of(&omit, usize::from(heads.omits), b) {
         return 0;
     }
-    if heads.encodes {
-        if heads.encode == b {
-            return 2;
-        }
-        return 1;
+    if heads.encodes && heads.encode == b {
+        return 2;
     }
     1
 }
@@ -58,7 +53,7 @@ pub(crate) fn room_for(heads: Heads, paused: bool, run: &[u8], room: usize) -> u
         if left < 2 {
             return i;
         }
-        left -= recorded(heads, paused, run[i]) as usize;
+        left -= usize::from(recorded(heads, paused, run[i]));
         i += 1;
     }
     i
@@ -90,7 +85,7 @@ pub(crate) fn record_run(heads: Heads, paused: bool, run: &[u8], out: &mut [u8])
         let b = run[i];
         let count = recorded(heads, paused, b);
         put_copies(out, at, b, count);
-        at += count as usize;
+        at += usize::from(count);
         i += 1;
     }
     at

@@ -42,6 +42,7 @@ pub(crate) fn ticks_passed(p: Process, count: u32) -> Process
 }
 
 // The least of the ticks left.
+// That none is ready is asked and in no type, no plainer: the event tests it once, and answers Busy.
 pub(crate) fn least_ticks(ps: &[Process; PROCESS_PLACES], most: u32) -> u32
     requires { any ready ps.now ≡ false }
     ensures { result ≡ ticks_reach most ps.now }

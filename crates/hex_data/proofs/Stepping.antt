@@ -13,7 +13,7 @@ use Rattle.hex_data.specs.Hex.{Said, byte_before, hex_at, counted, hex_into, hex
 use Rattle.hex_data.specs.Inside.Said.{said_bytes}
 use Rattle.numbers.specs.declared.Number.{Number}
 use Rattle.hex_data.specs.Inside.Next.{Before}
-use Rattle.hex_data.specs.declared.HexFault.TheVariants.{Wrong, Full}
+use Rattle.hex_data.specs.declared.HexFault.TheVariants.{Full}
 use Rattle.reader.proofs.Placing.{Placing, begun, renamed, fits, stored, placed}
 
 -- ---- the count of the whole is the count of the data from `from` on, on top of `n`
@@ -92,11 +92,6 @@ module _ {s d₀ : List ℕ} {to : ℕ} {bs d : List ℕ} {place from : ℕ} (w 
 -- ---- the answer and what the slice then holds, by the count
 
 module _ (d : List ℕ) (to : ℕ) where
-  pub into_wrong : {i : ℕ} (x : Said) → Err i ≡ counted 0 x → (Err (Wrong i) ≡ hex_into x d to) × (d ≡ hex_put x d to)
-  unfolding counted hex_into hex_put
-  into_wrong (good bs) e = let z : ◌≡◌ {A = ℕ} 0 1 = cc in absurd (omega arith)
-  into_wrong (bad at) e = (cc, refl)
-
   pub into_full : {n : ℕ} {t : Bool} (x : Said) → Ok n ≡ counted 0 x → t ≡ leb (to + n) (length d) → t ≡ false
       → (Err Full ≡ hex_into x d to) × (d ≡ hex_put x d to)
   unfolding counted hex_into hex_put

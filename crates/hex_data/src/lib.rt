@@ -1,4 +1,4 @@
-// Hex data, read from a place of a slice.
+// Hex data, read from a place of a slice: the public parameters may not change.
 #![tactic(auto)]
 
 ghost use Rattle.std.specs.Prelude.{◌+◌, ◌≤◌, ◌≡◌, length, drop};
@@ -29,6 +29,9 @@ fn next_byte(s: &[u8], at: usize) -> Result<Option<Number>, usize>
     }
     Ok(Some(hex_byte(s, from)?))
 }
+
+// Two walks and no closure: the count must be known before the first byte is written ("all of it or none", `hex_put`).
+// Neither is a `for`: a byte is one or two digits and separators are passed, so a count of turns is no place; no plainer.
 
 // How many bytes the hex data from a place on to the end are.
 pub fn hex_count(s: &[u8], at: usize) -> Result<usize, usize>
@@ -63,10 +66,7 @@ pub fn hex_into(s: &[u8], at: usize, dst: &mut [u8], to: usize) -> Result<usize,
     ensures { (result ≡ hex_into (hex_at s.now at) dst.old to)
         × (dst.new ≡ hex_put (hex_at s.now at) dst.old to) }
 {
-    let n = match hex_count(s, at) {
-        Ok(n) => n,
-        Err(bad) => return Err(HexFault::Wrong(bad)),
-    };
+    let n = hex_count(s, at).map_err(HexFault::Wrong)?;
     if !has_room(dst.len(), to, n) {
         return Err(HexFault::Full);
     }

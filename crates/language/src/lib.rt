@@ -94,6 +94,7 @@ pub struct Heads {
     pub extension: [u8; LETTER_PLACES],
 }
 
+// Public functions take its three parts, lent one by one: their parameters `cells, pool, heads` may not change.
 #[derive(Clone, Copy, PartialEq, Eq)]
 pub struct Table {
     pub cells: Cells,
@@ -109,6 +110,7 @@ pub struct Span {
 }
 
 // A clock value: how many units are fixed, of second, minute, hour and day in this order, and their values; the others are 0.
+// Four values and a count, as the word of a cell holds them: the definition clock_of_number may not change.
 #[derive(Clone, Copy, PartialEq, Eq, Debug)]
 pub struct Clock {
     pub fixed: u8,
@@ -164,7 +166,7 @@ pub enum TextFault {
 }
 
 // A fault, with the line that it names, the process for StretchTooLong, 0 for TextTooLong, and the column in that line,
-// from 1, 0 for both of these.
+// from 1, 0 for both of these. These numbers, the zeros too, are what the bench reads back, and may not change.
 #[derive(Clone, Copy, PartialEq, Eq, Debug)]
 pub struct Refusal {
     pub fault: TextFault,

@@ -9,6 +9,7 @@ use line_values::times::{DIGITS, MOST};
 use numbers::decimal::number;
 
 // The place up to which the bytes from `at` on agree with a name.
+// It is counted beside the bytes: with enumerate each law of Taking would speak of at + i, no plainer.
 fn alike(s: &[u8], at: usize, name: &[u8]) -> usize
     ensures { result ≡ at + alike name.now (drop at s.now) }
 {
@@ -81,8 +82,8 @@ pub(crate) fn in_taken(word: &[u8]) -> usize
 pub(crate) fn lfext_taken(word: &[u8]) -> usize
     ensures { result ≡ lfext_taken word.now }
 {
-    for i in 0..word.len() {
-        if LETTERS <= i || !is_capital(word[i].to_ascii_uppercase()) {
+    for (i, b) in word.iter().enumerate() {
+        if LETTERS <= i || !is_capital(b.to_ascii_uppercase()) {
             return i;
         }
     }

@@ -18,6 +18,7 @@ pub(crate) fn hex_taken(line: &[u8], at: usize) -> usize
 }
 
 // Data after their mark: `/` and text, or `:` and hex data.
+// Tests and no slice patterns: what is told is a place of the line, so the rest of a pattern would not serve.
 pub(crate) fn marked_taken(line: &[u8], at: usize) -> usize
     ensures { result ≡ at + behind_blanks marked_taken (drop at line.now) }
 {
@@ -58,6 +59,7 @@ fn signs_taken(line: &[u8], at: usize) -> usize
     ensures { result ≡ at + signs_taken (drop at line.now) false }
 {
     let mut marked = false;
+    // By its place, which is the answer. Tried by `enumerate` over the rest of the line: each law then adds `at` to it, no plainer.
     for i in at..line.len() {
         if marked && !is_sign(line[i]) {
             return i;
@@ -71,10 +73,7 @@ fn signs_taken(line: &[u8], at: usize) -> usize
 pub(crate) fn log_taken(line: &[u8], at: usize) -> usize
     ensures { result ≡ at + log_taken (drop at line.now) }
 {
-    if line.len() <= at {
-        return at;
-    }
-    if line[at] != b' ' {
+    if line.len() <= at || line[at] != b' ' {
         return at;
     }
     signs_taken(line, at + 1)

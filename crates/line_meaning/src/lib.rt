@@ -19,6 +19,7 @@ mod waits;
 // "At most 127 per line": a lent buffer of this many bytes holds the data of any line.
 pub const ROOM: usize = LINE + 1;
 
+// No heap: the count of the bytes in use goes with the line's meaning.
 pub type Data = [u8; ROOM];
 
 // Reads one line, without its LF and CR: what it means, and its data at the front of `bytes`.
@@ -29,24 +30,13 @@ pub fn read_line(line: &[u8], bytes: &mut Data) -> Result<Line, TextFault>
     if LINE < line.len() {
         return Err(TextFault::LineTooLong);
     }
-    if line.len() == 0 {
-        return Ok(Line::Blank);
+    match line {
+        [] => Ok(Line::Blank),
+        [b';', ..] => Ok(Line::Comment),
+        [b'#', ..] => names::named(Part { bytes: line }, bytes),
+        [b'/', text @ ..] => texts::send_text(Part { bytes: text }, bytes),
+        [b':', text @ ..] => texts::send_hex(Part { bytes: text }, bytes),
+        _ if only_blanks(line) => Ok(Line::Blank),
+        _ => Err(TextFault::NoSuchName),
     }
-    let first = line[0];
-    if first == b';' {
-        return Ok(Line::Comment);
-    }
-    if first == b'#' {
-        return names::named(Part { bytes: line }, bytes);
-    }
-    if first == b'/' {
-        return texts::send_text(Part { bytes: &line[1..] }, bytes);
-    }
-    if first == b':' {
-        return texts::send_hex(Part { bytes: &line[1..] }, bytes);
-    }
-    if only_blanks(line) {
-        return Ok(Line::Blank);
-    }
-    Err(TextFault::NoSuchName)
 }

@@ -1,4 +1,4 @@
-// Names of lines that have no data, and what stands after them.
+// Names of lines that have no data, and what stands after them. A test a name: see names.rt.
 ghost use Rattle.std.specs.Prelude.{◌≡◌};
 ghost use Rattle.language.specs.Meaning.{lookup};
 ghost use Rattle.line_values.specs.Inside.Line.{line_from};

@@ -28,6 +28,7 @@ fn put_text(text: Part, bytes: &mut Data) -> u16
 fn read_hex(text: Part, bytes: &mut Data) -> Result<u16, TextFault>
     ensures { ReadsData (hex_at text.entry.bytes.now 0) result bytes.old bytes.new }
 {
+    // A match: its answers would read the fault through a closure's contract (tried at `wait_clock` of line_values), no plainer.
     match hex_into(text.bytes, 0, bytes, 0) {
         Ok(n) => Ok(n as u16),
         Err(_) => Err(TextFault::BadRest),
@@ -35,6 +36,7 @@ fn read_hex(text: Part, bytes: &mut Data) -> Result<u16, TextFault>
 }
 
 // Reads data after its mark: `/` and text, or `:` and hex data.
+// Tests and no slice patterns: the rest of a pattern would have to be made a Part again, no plainer.
 fn read_marked(rest: Part, bytes: &mut Data) -> Result<u16, TextFault>
     ensures { ReadsData (marked_data rest.entry.bytes.now) result bytes.old bytes.new }
 {

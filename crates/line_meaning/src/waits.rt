@@ -13,7 +13,7 @@ use line_values::Line;
 use line_values::parts::is_name;
 use line_values::times::{wait_byte, wait_time};
 
-// TIME, DATA and BYTE.
+// TIME, DATA and BYTE. A test a name: see names.rt.
 fn of_four(word: &[u8], rest: Part, bytes: &mut Data) -> Result<Line, TextFault>
     ensures { ReadsLine (lookup (waits_long 4) word.now rest.entry.bytes.now) result bytes.old
         bytes.new }

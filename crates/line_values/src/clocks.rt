@@ -34,6 +34,7 @@ fn units(digits: &[u8], start: usize, first: usize) -> Result<Clock, usize>
 {
     let mut values = [0u8; UNITS];
     let mut at = start;
+    // By its number: two arrays are read and written at once from `first` on, and a zip of them would count `at` as well, no plainer.
     for i in first..UNITS {
         let (low, high) = RANGES[i];
         values[i] = unit(digits, at, low, high)?;
@@ -64,6 +65,7 @@ fn fixed_from(digits: &[u8], start: usize, first: usize) -> Result<Clock, usize>
 }
 
 // The unit, D, h, m or s, and the digits; or the place of the first byte that cannot be taken, counted from the argument's first.
+// By the first byte: a slice pattern would bind a rest that no arm uses, since places count from the whole, no plainer.
 pub fn clock_value(argument: &[u8]) -> Result<Clock, usize>
     ensures { result ≡ clock_read (clock_of argument.now) }
 {
@@ -83,6 +85,7 @@ pub fn clock_value(argument: &[u8]) -> Result<Clock, usize>
 pub fn wait_clock(argument: &[u8]) -> Result<Line, TextFault>
     ensures { result ≡ line_from (clock_says (clock_of argument.now)) }
 {
+    // A match: `map_err` was tried, and its answers read the fault through the contract of the closure, which is no plainer.
     match clock_value(argument) {
         Ok(value) => Ok(Line::Says(Cell::WaitClock(value))),
         Err(_) => Err(TextFault::BadRest),

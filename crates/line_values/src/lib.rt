@@ -20,6 +20,6 @@ pub enum Line {
     Encode(u8),
     Stopbits(bool),
     Omit(u8),
-    // The letters, made capital, with zeros after them.
+    // The letters, made capital, with zeros after them, as Heads holds them, whose fields may not change.
     Lfext([u8; LETTER_PLACES]),
 }

@@ -40,6 +40,7 @@ pub fn stopbits(argument: &[u8]) -> Line
 }
 
 // ENCODE: `:` and one or two hex digits, `/` then a byte, or the byte.
+// Tests and no slice patterns: nothing, `/` alone and `/` with a byte would be three patterns more, no plainer.
 pub fn encode(argument: &[u8]) -> Result<Line, TextFault>
     ensures { result ≡ line_from (encode_of argument.now) }
 {
@@ -48,6 +49,7 @@ pub fn encode(argument: &[u8]) -> Result<Line, TextFault>
     }
     let first = argument[0];
     if first == b':' {
+        // A match: see `wait_clock`.
         return match hex_byte(argument, 1) {
             Ok(read) => Ok(Line::Encode(read.value as u8)),
             Err(_) => Err(TextFault::BadRest),
@@ -70,8 +72,8 @@ pub fn lfext(argument: &[u8]) -> Result<Line, TextFault>
         return Err(TextFault::BadRest);
     }
     let mut letters = [0u8; LETTER_PLACES];
-    for i in 0..argument.len() {
-        let letter = argument[i].to_ascii_uppercase();
+    for (i, b) in argument.iter().enumerate() {
+        let letter = b.to_ascii_uppercase();
         if !is_capital(letter) {
             return Err(TextFault::BadRest);
         }

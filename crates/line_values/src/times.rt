@@ -48,7 +48,7 @@ pub fn wait_byte(argument: &[u8]) -> Result<Line, TextFault>
     Ok(Line::Says(Cell::WaitByte(count)))
 }
 
-// A time of so many of a unit.
+// A time of so many of a unit. A test a name: see names.rt of line_meaning.
 fn time_in(unit: &[u8], v: u32) -> Result<Line, TextFault>
     requires { v ≤ 60000 }
     ensures { result ≡ line_from (time_in unit.now v) }

@@ -11,7 +11,7 @@ use language::{LISTING, TEXT, Table};
 use lister::list;
 use std::io;
 
-// One byte more than a text may have is enough to know that it is too long.
+// One byte more than a text may have shows that it is too long. The box never holds a text: each program says it.
 const ROOM: usize = TEXT + 1;
 
 fn usage(rt: HostRuntime, to: &impl Print) -> io::Result<()> {
@@ -25,7 +25,7 @@ fn usage(rt: HostRuntime, to: &impl Print) -> io::Result<()> {
     )
 }
 
-// A buffer of LISTING bytes has room for every listing.
+// A buffer of LISTING bytes has room for every listing. The lister writes into a lent slice, as in the box.
 fn say_listing(rt: HostRuntime, table: &Table) -> io::Result<()> {
     let mut out = [0u8; LISTING];
     match list(&table.cells, &table.pool, table.heads, &mut out) {
@@ -34,6 +34,7 @@ fn say_listing(rt: HostRuntime, table: &Table) -> io::Result<()> {
     }
 }
 
+// Each program spells a refusal: the core has no printing.
 fn list_text(rt: HostRuntime, text: &[u8]) -> io::Result<()> {
     let compiled = compile(text);
     match compiled.answer {

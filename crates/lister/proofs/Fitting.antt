@@ -1,17 +1,17 @@
--- A LISTING HAS AT MOST 13,670 BYTES; and what the printer asks of an accepted table. Assumes nothing.
+-- A LISTING HAS AT MOST 13,670 BYTES. Assumes nothing.
 use Prim.Native.Nat.{◌≤◌}
-use mathlib.Core.Path.{◌≡◌, ap}
+use mathlib.Core.Path.{◌≡◌}
 use mathlib.Core.Bool.{true}
 use native.Mathlib.Omega.{arith}
 use lib.ListN.{length}
 use Rattle.language.specs.declared.Table.{Table}
-use Rattle.language.specs.Limits.{omit_limit, listing_limit}
+use Rattle.language.specs.Limits.{listing_limit}
 use Rattle.language.specs.Stretch.{stretch_of}
-use Rattle.language.specs.Table.{heads_of, laid_out, script_of}
+use Rattle.language.specs.Table.{script_of}
 use Rattle.language.proofs.Good.{Good, good}
 use Rattle.language.proofs.Size.{listing_size}
 use Rattle.accepted.specs.Accepted.{table_right}
-use Rattle.accepted.proofs.Exactly.{laid_out_lem, script_right_lem}
+use Rattle.accepted.proofs.Exactly.{script_right_lem}
 use Rattle.lister.specs.Inside.Printed.{FitsListing}
 use Rattle.lister.specs.Listed.{listing_of}
 
@@ -24,7 +24,3 @@ module _ (t : Table) (right : table_right t ≡ true) where
 
   pub listing_room : FitsListing 0 (listing_of t)
   listing_room = record { fits = omega (arith, listing_few) }
-
-  pub omits_few : t.heads.omits ≤ omit_limit
-  unfolding laid_out heads_of
-  omits_few = omega (arith, is_good_lem.settings.omitted, ap (λ (u : Table). u.heads.omits) (laid_out_lem t right))

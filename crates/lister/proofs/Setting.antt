@@ -77,8 +77,8 @@ module _ (h : Heads) where
   abbrev pub omit_text : List ℕ
   omit_text = omit_line (take h.omits h.omit)
 
-  pub omit_is : {n : ℕ} → n ≡ h.omits → omit_line (take n h.omit) ≡ omit_text
-  omit_is e = ap (λ (n : ℕ). omit_line (take n h.omit)) e
+  pub omit_is : {bs : List ℕ} → bs ≡ take h.omits h.omit → omit_line bs ≡ omit_text
+  omit_is e = ap omit_line e
 
   abbrev pub lfext_text : List ℕ
   lfext_text = with_line_ends (line_if (not (same (letters_of h.extension) (ascii "LOG"))) (ascii "#f:LFEXT " ++ letters_of h.extension))

@@ -7,7 +7,7 @@ ghost use Rattle.language.specs.Listing.{is_plain, in_hex};
 fn all_plain(text: &[u8]) -> bool
     ensures { result ≡ all is_plain text.now }
 {
-    text.iter().all(|b| 32 <= *b && *b <= 126)
+    text.iter().all(|b| matches!(*b, b' '..=b'~'))
 }
 
 /// "Data in hex .. where a byte lies outside 20h to 7Eh and the line fits in 127": `room` is what the line has left after the mark.

@@ -1,29 +1,19 @@
 // The line of each statement, without its CR LF.
-ghost use Rattle.std.specs.Prelude.{◌≡◌, ◌++◌, ◌+◌, ◌≤◌};
+ghost use Rattle.std.specs.Prelude.{◌≡◌, ◌++◌, ◌≤◌};
 ghost use Rattle.reader.specs.Ascii.{ascii};
 ghost use Rattle.language.specs.Clock.{clock_letter, clock_text};
 ghost use Rattle.language.specs.Cell.{fixed_units};
 ghost use Rattle.language.specs.Listing.{data_text, count_text, time_text, on_text, signal_text, log_text};
-ghost use Rattle.language.specs.Table.{data_at};
 ghost use Rattle.lister.specs.Inside.Printed.{FitsListing, Printed};
-ghost use Rattle.language.specs.Limits.{send_room, wait_room, pool_places};
+ghost use Rattle.language.specs.Limits.{send_room, wait_room};
 
 use crate::hex_or_text::in_hex;
 use crate::text::{hex, number, put, short_hex, store, unit};
 use language::last_digit::last_in_one;
-use language::{Clock, DATA, Pool, Span, WAIT_ROOM};
-
-// The bytes of a cell's data.
-fn data_of(pool: &Pool, s: Span) -> &[u8]
-    requires { s.from + s.count ≤ pool_places }
-    ensures { result.now ≡ data_at pool.now s }
-{
-    let from = usize::from(s.from);
-    &pool[from..from + usize::from(s.count)]
-}
+use language::{Clock, WAIT_ROOM};
 
 // Data in hex after `:`, or as text after `/`.
-fn data_text(out: &mut [u8], at: usize, text: &[u8], room: usize) -> usize
+pub(crate) fn data_text(out: &mut [u8], at: usize, text: &[u8], room: usize) -> usize
     requires { (room ≤ send_room) × FitsListing at (data_text room text.now) }
     ensures { Printed (data_text room text.now) out.old at result out.new }
 {
@@ -39,29 +29,18 @@ fn data_text(out: &mut [u8], at: usize, text: &[u8], room: usize) -> usize
     put(out, at + 1, text)
 }
 
-// The data that lie in a range of the pool.
-pub(crate) fn pool_text(out: &mut [u8], at: usize, pool: &Pool, s: Span, room: usize) -> usize
-    requires { (s.from + s.count ≤ pool_places)
-        × (room ≤ send_room)
-        × FitsListing at (data_text room (data_at pool.now s)) }
-    ensures { Printed (data_text room (data_at pool.now s)) out.old at result out.new }
-{
-    data_text(out, at, data_of(pool, s), room)
-}
-
 // "`#WAIT DATA`" and its data.
-pub(crate) fn wait_data(out: &mut [u8], at: usize, pool: &Pool, s: Span) -> usize
-    requires { (s.from + s.count ≤ pool_places)
-        × FitsListing at (ascii "#WAIT DATA " ++ data_text wait_room (data_at pool.now s)) }
-    ensures { Printed (ascii "#WAIT DATA " ++ data_text wait_room (data_at pool.now s))
-        out.old at result out.new }
+pub(crate) fn wait_data(out: &mut [u8], at: usize, text: &[u8]) -> usize
+    requires { FitsListing at (ascii "#WAIT DATA " ++ data_text wait_room text.now) }
+    ensures { Printed (ascii "#WAIT DATA " ++ data_text wait_room text.now) out.old at result
+        out.new }
 {
     let next = put(out, at, b"#WAIT DATA ");
-    pool_text(out, next, pool, s, WAIT_ROOM)
+    data_text(out, next, text, WAIT_ROOM)
 }
 
 // "LOG as written, `#LOG` if empty".
-fn log_text(out: &mut [u8], at: usize, text: &[u8]) -> usize
+pub(crate) fn log_text(out: &mut [u8], at: usize, text: &[u8]) -> usize
     requires { FitsListing at (log_text text.now) }
     ensures { Printed (log_text text.now) out.old at result out.new }
 {
@@ -70,14 +49,6 @@ fn log_text(out: &mut [u8], at: usize, text: &[u8]) -> usize
     }
     let next = put(out, at, b"#LOG ");
     put(out, next, text)
-}
-
-// LOG and its text in the pool.
-pub(crate) fn log(out: &mut [u8], at: usize, pool: &Pool, s: Span) -> usize
-    requires { (s.from + s.count ≤ pool_places) × FitsListing at (log_text (data_at pool.now s)) }
-    ensures { Printed (log_text (data_at pool.now s)) out.old at result out.new }
-{
-    log_text(out, at, data_of(pool, s))
 }
 
 // "`#LOOP EVER` or the count".
@@ -123,7 +94,7 @@ pub(crate) fn signal_text(out: &mut [u8], at: usize, n: u8) -> usize
     if n == 0 {
         return put(out, at, b"CTS");
     }
-    let name = [b'E', b'X', 48 + n];
+    let name = [b'E', b'X', b'0' + n];
     put(out, at, &name)
 }
 

@@ -1,17 +1,16 @@
 // The text of a listing: the lines of the settings, then those of the processes, "CR LF after each line".
 // The slice and the place are two parameters of every printing function: in a struct over the lent slice each contract would also have to
 // say that it is still the same slice, which is no plainer.
-ghost use Rattle.std.specs.Prelude.{◌≡◌, ◌≤◌, leb, length};
+ghost use Rattle.std.specs.Prelude.{◌≡◌, leb, length};
 ghost use Rattle.lister.specs.Inside.Printed.{FitsListing, Printed};
 ghost use Rattle.lister.specs.Listed.{listing_of};
-ghost use Rattle.language.specs.Limits.{omit_places};
 ghost use Rattle.language.specs.Table.{table};
 
 use language::{Cells, Heads, LISTING, Pool};
 
 /// Writes the listing as far as the buffer goes: how many bytes it has.
 pub(crate) fn whole<'a>(cells: &'a Cells, pool: &'a Pool, heads: Heads, out: &mut [u8]) -> usize
-    requires { (heads.omits ≤ omit_places) × FitsListing 0 (listing_of (table cells.now pool.now heads)) }
+    requires { FitsListing 0 (listing_of (table cells.now pool.now heads)) }
     ensures { Printed (listing_of (table cells.now pool.now heads)) out.old 0 result
         out.new }
 {
@@ -21,13 +20,12 @@ pub(crate) fn whole<'a>(cells: &'a Cells, pool: &'a Pool, heads: Heads, out: &mu
 
 /// Whether the listing has room in so many bytes.
 pub(crate) fn listing_fits<'a>(cells: &'a Cells, pool: &'a Pool, heads: Heads, room: usize) -> bool
-    requires { (heads.omits ≤ omit_places) × FitsListing 0 (listing_of (table cells.now pool.now heads)) }
+    requires { FitsListing 0 (listing_of (table cells.now pool.now heads)) }
     ensures { result ≡ leb (length (listing_of (table cells.now pool.now heads))) room }
 {
     // Every listing has room in so many bytes: its length need not be learned.
     if LISTING <= room {
         return true;
     }
-    let mut nowhere = [0u8; 1];
-    whole(cells, pool, heads, &mut nowhere) <= room
+    whole(cells, pool, heads, &mut []) <= room
 }

@@ -11,9 +11,9 @@ ghost use Rattle.language.specs.Limits.{omit_places};
 
 use crate::text::{hex, put};
 use accepted::settings::{letters, other_letters};
-use language::Heads;
+use language::{Heads, OMIT_PLACES};
 
-// "`#f:ENCODE :hh`".
+// "`#f:ENCODE :hh`". A flag and a byte, as Heads has them, whose fields may not change.
 fn encode_line(out: &mut [u8], at: usize, encodes: bool, encode: u8) -> usize
     requires { FitsListing at (with_line_ends (encode_lines (cond encodes (byte encode) unset))) }
     ensures { Printed (with_line_ends (encode_lines (cond encodes (byte encode) unset))) out.old at result
@@ -74,10 +74,10 @@ fn lfext_line(out: &mut [u8], at: usize, extension: &[u8]) -> usize
 
 // The lines of the settings that are not default.
 pub(crate) fn settings(out: &mut [u8], at: usize, heads: Heads) -> usize
-    requires { (heads.omits ≤ omit_places) × FitsListing at (printed_settings heads) }
+    requires { FitsListing at (printed_settings heads) }
     ensures { Printed (printed_settings heads) out.old at result out.new }
 {
-    let omits = usize::from(heads.omits);
+    let omits = usize::from(heads.omits).min(OMIT_PLACES);
     let first = encode_line(out, at, heads.encodes, heads.encode);
     let second = stopbits_line(out, first, heads.two_stop_bits);
     let third = omit_line(out, second, &heads.omit[..omits]);

@@ -1,21 +1,34 @@
 // The line of a cell, with its CR LF.
-ghost use Rattle.std.specs.Prelude.{◌++◌, ◌≤◌};
+ghost use Rattle.std.specs.Prelude.{◌≡◌, ◌++◌, ◌+◌, ◌≤◌};
 ghost use Rattle.reader.specs.Ascii.{ascii};
 ghost use Rattle.writer.specs.Put.{decimal};
 ghost use Rattle.language.specs.Cell.{fixed_units};
 ghost use Rattle.language.specs.Clock.{clock_text};
 ghost use Rattle.language.specs.Listing.{count_text, time_text, on_text, signal_text};
+ghost use Rattle.language.specs.Limits.{pool_places};
+ghost use Rattle.language.specs.Table.{data_at};
 ghost use Rattle.lister.specs.Inside.Names.{bare_name};
 ghost use Rattle.lister.specs.Inside.Printed.{FitsListing, Printed, line_ended, word_line};
 
 use crate::lines::{
-    clock_text, count_text, log, on_text, pool_text, signal_text, time_text, wait_data,
+    clock_text, count_text, data_text, log_text, on_text, signal_text, time_text, wait_data,
 };
 use crate::text::{number, put};
 use cells::decoder::decode;
-use language::{Cell, Clock, Level, Pool, SEND_ROOM};
+use language::{Cell, Clock, Level, Pool, SEND_ROOM, Span};
+
+// The bytes of a cell's data.
+// Also in accepted and runner: shared it would be public, so total, with two tests more each time, no plainer.
+fn data_of(pool: &Pool, s: Span) -> &[u8]
+    requires { s.from + s.count ≤ pool_places }
+    ensures { result.now ≡ data_at pool.now s }
+{
+    let from = usize::from(s.from);
+    &pool[from..from + usize::from(s.count)]
+}
 
 // A name, then a value: each of these six has its own writer of the value, so one function over a closure would be no plainer.
+
 // `#LOOP` and how often.
 fn loops(out: &mut [u8], at: usize, n: u16) -> usize
     requires { FitsListing at (ascii "#LOOP " ++ count_text n) }
@@ -94,15 +107,15 @@ fn statement(out: &mut [u8], at: usize, pool: &Pool, w: u32) -> usize
 {
     let c = decode(w);
     match c {
-        Cell::Send(s) => pool_text(out, at, pool, s, SEND_ROOM),
+        Cell::Send(s) => data_text(out, at, data_of(pool, s), SEND_ROOM),
         Cell::Loop(n) => loops(out, at, n),
         Cell::WaitTime(n) => wait_time(out, at, n),
-        Cell::WaitData(s) => wait_data(out, at, pool, s),
+        Cell::WaitData(s) => wait_data(out, at, data_of(pool, s)),
         Cell::WaitByte(n) => wait_byte(out, at, n),
         Cell::WaitClock(v) => wait_clock(out, at, v),
         Cell::WaitSignal(l) => wait_signal(out, at, l),
         Cell::Rts(on) => rts(out, at, on),
-        Cell::Log(s) => log(out, at, pool, s),
+        Cell::Log(s) => log_text(out, at, data_of(pool, s)),
         _ => bare_name(out, at, c),
     }
 }

@@ -1,5 +1,5 @@
-// Bytes, numbers and hex written from a place on, as far as the slice goes.
-ghost use Rattle.std.specs.Prelude.{◌≡◌, cond, [], ◌≤◌, ◌<◌, length, take, set};
+// Bytes, numbers and hex written from a place on, as far as the slice goes. No heap: what is printed stands in buffers of its own size.
+ghost use Rattle.std.specs.Prelude.{◌≡◌, cond, [], ◌≤◌, ◌<◌, length, set};
 ghost use Rattle.writer.specs.Hex.{hex_text};
 ghost use Rattle.writer.specs.Put.{decimal, two_digits};
 ghost use Rattle.language.specs.Listing.{last_of, short_hex};
@@ -22,12 +22,10 @@ pub(crate) fn put(out: &mut [u8], at: usize, bytes: &[u8]) -> usize
     requires { FitsListing at bytes.now }
     ensures { Printed bytes.now out.old at result out.new }
 {
-    let mut place = at;
-    for b in bytes {
-        store(out, place, *b);
-        place += 1;
+    for (i, b) in bytes.iter().enumerate() {
+        store(out, at + i, *b);
     }
-    place
+    at + bytes.len()
 }
 
 // Writes a number in decimal. One function over a closure, for `hex` and `two_digits` too, would take the text as a ghost argument: no plainer.
@@ -77,7 +75,8 @@ fn two_digits(out: &mut [u8], at: usize, n: u8) -> usize
     put(out, at, &digits[..count])
 }
 
-// Writes a unit of a clock value, if it is fixed.
+// Writes a unit of a clock value, if it is fixed. A flag beside the value, as the clock's text has it (`cond`): an Option would be made
+// of both and taken apart again.
 pub(crate) fn unit(out: &mut [u8], at: usize, is: bool, n: u8) -> usize
     requires { FitsListing at (cond is (two_digits n) []) }
     ensures { Printed (cond is (two_digits n) []) out.old at result out.new }

@@ -1,4 +1,4 @@
-// Decimal numbers, and values of two digits.
+// Decimal numbers, and values of two digits. A slice and a place in it: the public parameters may not change.
 ghost use Rattle.std.specs.Prelude.{◌≡◌};
 ghost use Rattle.numbers.specs.Number.{number_at, pair_at};
 ghost use Rattle.numbers.specs.Inside.Decimal.{decimal_at};
@@ -20,6 +20,7 @@ pub fn number(s: &[u8], at: usize, most: usize, limit: u32) -> Result<Number, us
     ensures { result ≡ number_at most limit s.now at }
 {
     let mut got = Number { value: 0, next: at };
+    // Not a `for`: the place is a field of the answer, and a `for` would count it a second time, no plainer.
     while let Some(d) = decimal(s, got.next) {
         let value = u64::from(got.value) * 10 + u64::from(d);
         if most <= got.next - at || u64::from(limit) < value {

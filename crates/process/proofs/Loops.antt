@@ -1,5 +1,5 @@
 -- Laws for loops over an array: one that looks for an element, and one that maps each. Assumes nothing.
-use mathlib.Core.Path.{◌≡◌, refl, sym, ap, ap₂, ◌∙◌}
+use mathlib.Core.Path.{◌≡◌, refl, sym, ap, ◌∙◌}
 use mathlib.Core.Bool.{Bool, true}
 use mathlib.Core.List.{List, [], ◌∷◌, ◌++◌, map, append_assoc}
 use Prim.Native.Nat.{ℕ, suc, ◌+◌, ◌≤◌, ◌<◌}
@@ -8,7 +8,6 @@ use native.Mathlib.Omega.{arith}
 use Rattle.reader.specs.Bytes.{all}
 use Rattle.reader.proofs.Each.{each_at}
 use Rattle.std.specs.List.{list_any, list_all}
-use Rattle.process.specs.declared.Process.{Process}
 use Rattle.process.specs.State.{any}
 use lib.ListN.{length, get_or, take, drop, set, length-map, drop_of_length-le}
 use lib.Seq.{take-suc, drop-cons, take_all, set_at, get_or_at, length-take-le}

@@ -4,12 +4,10 @@
 ghost use Rattle.std.specs.Prelude.{◌≡◌};
 ghost use Rattle.process.specs.State.{run_refusal_number};
 
-use language::{Clock, LOOP_PLACES, PROCESS_PLACES, SIGNALS};
+use language::{Clock, LOOP_PLACES, Level, PROCESS_PLACES, SIGNALS};
 
 pub mod taking;
 pub mod waits;
-
-use language::Level;
 
 // A reading of the clock.
 #[derive(Clone, Copy)]
@@ -43,7 +41,8 @@ pub enum Wait {
 }
 
 // A process: the place of its next statement and the place after its last; how many loops are open, and of each the passes left,
-// 0 for a forever loop, and the place where its body begins; and its wait.
+// 0 for a forever loop as the definitions have it, which may not change, and the place where its body begins; and its wait.
+// Arrays of eight in a struct by value: document 01's form for a process state, and there is no heap.
 #[derive(Clone, Copy)]
 pub struct Process {
     pub place: u16,
@@ -66,11 +65,11 @@ pub struct State {
 // Why a call is refused.
 #[derive(Clone, Copy, PartialEq, Eq, Debug)]
 pub enum RunRefusal {
-    Busy,
-    BadReading,
-    NoSuchSignal,
-    SmallBuffer,
-    BadTable,
+    Busy = 21,
+    BadReading = 22,
+    NoSuchSignal = 23,
+    SmallBuffer = 24,
+    BadTable = 25,
 }
 
 impl RunRefusal {
@@ -79,13 +78,7 @@ impl RunRefusal {
     pub fn number(self) -> u8
         ensures { result ≡ run_refusal_number self }
     {
-        match self {
-            RunRefusal::Busy => 21,
-            RunRefusal::BadReading => 22,
-            RunRefusal::NoSuchSignal => 23,
-            RunRefusal::SmallBuffer => 24,
-            RunRefusal::BadTable => 25,
-        }
+        self as u8
     }
 }
 

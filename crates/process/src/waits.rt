@@ -1,6 +1,6 @@
 // What a wait becomes where it ends, and what ends one.
 ghost use Rattle.std.specs.Prelude.{◌≡◌};
-ghost use Rattle.process.specs.Waiting.{awake, unit_matches, matches, same_level, sets_level};
+ghost use Rattle.process.specs.Waiting.{awake, unit_matches, matches, sets_level};
 
 use crate::{Reading, Wait};
 use language::{Clock, Level};
@@ -13,6 +13,7 @@ pub fn awaken(place: u16, end: u16) -> Wait
     if place < end { Wait::Ready } else { Wait::Over }
 }
 
+// A flag beside its value, as the definition unit_matches has them, which may not change.
 #[tactic(auto, unfolding(crate::specs::Waiting::unit_matches))]
 fn unit_matches(fixed: bool, value: u8, read: u8) -> bool
     ensures { result ≡ unit_matches fixed value read }
@@ -31,17 +32,10 @@ pub(crate) fn clock_matches(c: Clock, r: Reading) -> bool
         && unit_matches(1 <= c.fixed, c.second, r.second)
 }
 
-// It stays while `statement` calls it: elsewhere it is `==`.
-pub fn same_level(a: bool, b: bool) -> bool
-    ensures { result ≡ same_level a b }
-{
-    a == b
-}
-
 // Whether an event sets the level that a wait is for.
 #[tactic(auto, unfolding(crate::specs::Waiting::sets_level))]
 pub(crate) fn sets_level(l: Level, e: Level) -> bool
     ensures { result ≡ sets_level l e }
 {
-    l.signal == e.signal && l.on == e.on
+    l == e
 }

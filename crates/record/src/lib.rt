@@ -107,6 +107,7 @@ pub fn write_record(text: &[u8], r: Reading, count: u32, out: &mut [u8]) -> Opti
         return None;
     }
     let shown = Shown { reading: r, count };
+    // No heap: a piece is put into ten bytes, with its length beside.
     let mut piece = [0u8; SIGN];
     let mut at = 0usize;
     let mut signed = false;

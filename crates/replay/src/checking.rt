@@ -30,6 +30,7 @@ impl From<AllocError> for Unlike {
     }
 }
 
+// The table is that of a script, and LISTING bytes are enough: no listing is refused.
 fn listing(alloc: Global, table: &Table) -> Result<Vec<u8>, AllocError> {
     let mut out = vec![in alloc; 0; LISTING]?;
     let n = list(&table.cells, &table.pool, table.heads, &mut out).unwrap_or(0);

@@ -22,7 +22,7 @@ mod stop;
 mod tally;
 mod telling;
 
-// One byte more than a text may have is enough to know that it is too long.
+// One byte more than a text may have shows that it is too long. The box never holds a text: each program says it.
 pub(crate) const ROOM: usize = TEXT + 1;
 
 const USAGE: &[u8] = b"usage: replay SCRIPT < OPERATIONS

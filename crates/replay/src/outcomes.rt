@@ -5,6 +5,7 @@ use statement::outcome::Outcome;
 use std::fmt;
 
 // What is said of an operation: a name, a number if it has one, and how many of the bytes that were lent.
+// A count and no slice: the bytes stay lent to the box while this is made.
 #[derive(Clone, Copy)]
 pub struct Said {
     name: &'static str,

@@ -13,8 +13,8 @@ use runner::draining::drain;
 use runner::starting::{Counts, idle, start};
 use std::io::Read;
 
-// A box that runs the script of a table. What it is lent stands beside it: two fields that are lent at once behind one reference
-// get no proof.
+// A box that runs the script of a table. What it is lent stands beside it: two fields that are lent at once behind one
+// reference get no proof.
 #[derive(Drop)]
 struct Running<'a> {
     table: &'a Table,
@@ -117,7 +117,12 @@ pub(crate) fn run<I: Read, T: Telling>(
             }
         };
         let said = running.said(asked, &mut lent);
-        to.tell(Told { said, lent: &lent })?;
+        let told = to.tell(Told { said, lent: &lent });
+        // After a write that failed, what is told is still written where the next line takes a read.
+        if matches!(told, Err(Stop::Told)) && operations.is_spent() {
+            to.wait()?;
+        }
+        told?;
     }
     Ok(())
 }

@@ -4,7 +4,7 @@ use console::parts::first;
 use language::Refusal;
 use std::fmt;
 
-// As `list_script` prints it, but for the line's end.
+// As `list_script` prints it, but for the line's end. Each program spells it: the core has no printing.
 #[derive(Clone, Copy)]
 pub struct Refused(pub Refusal);
 

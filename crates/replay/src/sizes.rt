@@ -4,6 +4,7 @@
 pub(crate) const RUN: usize = 2000;
 
 // The places that a drain or a gulp is lent at most: a gulp records each of its bytes twice at most.
+// An array, as the box has it: what is lent to it is never grown.
 pub(crate) const LENT: usize = 4096;
 
 // The longest outcome: a gulp's name, what it took and four digits for each of its bytes.

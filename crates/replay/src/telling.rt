@@ -42,12 +42,15 @@ impl Page {
 }
 
 impl Telling for Page {
-    // A page has no more bytes than a block.
+    // A page has no more bytes than a block. The outcome is put on it also where that which is full cannot be printed.
     fn tell(&mut self, told: Told<'_>) -> Result<(), Stop> {
-        if BLOCK - LONGEST <= self.text.len() {
-            self.print()?;
-        }
-        Ok(writeln!(self.text, "{told}")?)
+        let printed = if BLOCK - LONGEST <= self.text.len() {
+            self.print()
+        } else {
+            Ok(())
+        };
+        writeln!(self.text, "{told}")?;
+        printed
     }
 
     fn wait(&mut self) -> Result<(), Stop> {

@@ -50,9 +50,6 @@ pub fn drain<'a>(
     let Some(i) = first_ready(&t) else {
         return idle(s, out.len());
     };
-    let outcome = match take_turn(&mut t, i, cells, pool, counts, out) {
-        Ok(outcome) => outcome,
-        Err(why) => Outcome::Refused(why),
-    };
+    let outcome = take_turn(&mut t, i, cells, pool, counts, out).unwrap_or_else(Outcome::Refused);
     Drained { state: t, outcome }
 }

@@ -19,6 +19,7 @@ use statement::outcome::{Outcome, counted, pauses, said};
 use writer::put_bytes;
 
 // The data that lie at a place of the pool.
+// Also in accepted and lister: shared it would be public, so total, with two tests more each time, no plainer.
 fn data<'a>(pool: &'a Pool, s: Span) -> &'a [u8]
     requires { s.from + s.count ≤ pool_places }
     ensures { result.now ≡ data_at pool.now s }
@@ -28,27 +29,28 @@ fn data<'a>(pool: &'a Pool, s: Span) -> &'a [u8]
 }
 
 // Sends data: how many bytes they are.
-#[tactic(auto, using(crate::proofs::Written::data_long), unfolding(writer::specs::Put::put_answer, writer::specs::Put::put_into))]
-fn send(pool: &Pool, s: Span, out: &mut [u8]) -> usize
-    requires { (s.from + s.count ≤ pool_places) × (s.count ≤ length out.old) }
-    ensures { (result ≡ length (data_at pool.now s))
-        × (out.new ≡ sets out.old 0 (data_at pool.now s)) }
+#[tactic(auto, unfolding(writer::specs::Put::put_answer, writer::specs::Put::put_into))]
+fn send(bytes: &[u8], out: &mut [u8]) -> usize
+    requires { length bytes.now ≤ length out.old }
+    ensures { (result ≡ length bytes.now)
+        × (out.new ≡ sets out.old 0 bytes.now) }
 {
-    put_bytes(out, 0, data(pool, s)).unwrap()
+    put_bytes(out, 0, bytes).unwrap()
 }
 
 // Records a LOG text: how many bytes the record has.
 #[tactic(auto, unfolding(record::specs::Logging::record_answer, record::specs::Logging::record_into))]
-fn log(pool: &Pool, s: Span, r: Reading, count: u32, out: &mut [u8]) -> usize
-    requires { (s.from + s.count ≤ pool_places) × (record_limit ≤ length out.old) }
-    ensures { (result ≡ length (record_of r count (data_at pool.now s)))
-        × (out.new ≡ sets out.old 0 (record_of r count (data_at pool.now s))) }
+fn log(text: &[u8], r: Reading, count: u32, out: &mut [u8]) -> usize
+    requires { record_limit ≤ length out.old }
+    ensures { (result ≡ length (record_of r count text.now))
+        × (out.new ≡ sets out.old 0 (record_of r count text.now)) }
 {
     // The buffer has 128 bytes, and no record more than 127.
-    write_record(data(pool, s), r, count, out).unwrap()
+    write_record(text, r, count, out).unwrap()
 }
 
 // Does what a cell's statement does besides moving its process on. "Each LOG statement has its own `@c`": by the place of its cell.
+// Six parameters: the lent things of a drain stay apart, as in the public function, which may not change.
 fn perform(
     cell: Cell,
     pool: &Pool,
@@ -65,10 +67,10 @@ fn perform(
         × (counts.new ≡ set counts.old at (counted_by (get_or counts.old at 0) cell)) }
 {
     match cell {
-        Cell::Send(s) => said(cell, send(pool, s, out)),
+        Cell::Send(s) => said(cell, send(data(pool, s), out)),
         Cell::Log(s) => {
             let count = counts[at];
-            let n = log(pool, s, r, count, out);
+            let n = log(data(pool, s), r, count, out);
             counts[at] = counted(cell, count);
             said(cell, n)
         }
@@ -98,9 +100,7 @@ pub(crate) fn take_turn<'a>(
 {
     let p = s.processes[i];
     let stepped = step(p, cells, s.levels);
-    let Some(process) = stepped.moved else {
-        return Err(RunRefusal::BadTable);
-    };
+    let process = stepped.moved.ok_or(RunRefusal::BadTable)?;
     if out.len() < DRAIN {
         return Err(RunRefusal::SmallBuffer);
     }

@@ -3,7 +3,7 @@ use Rattle.std.proofs.Common.{◌≡◌, ℕ, ◌-◌, ◌≤◌, List, get_or, 
 use Rattle.std.proofs.lemmas.Grind.{common_steps}
 use Rattle.language.specs.Limits.{loop_limit}
 use Rattle.process.specs.declared.Process.{Process}
-use Rattle.statement.specs.Ways.{in_table}
+use Rattle.statement.specs.Inside.InTable.{in_table}
 use Rattle.statement.specs.Loops.{back_to, pass, closed}
 
 module _ (p : Process) where

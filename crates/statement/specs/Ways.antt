@@ -1,6 +1,5 @@
 -- The ways on that every statement has: to a place, with the loops that are open there and a wait; or 25.
-use Rattle.std.specs.Prelude.{ℕ, Bool, true, false, List, Option}
-use Rattle.std.specs.Bool.{then_some}
+use Rattle.std.specs.Prelude.{ℕ, Bool, true, false, List}
 use Rattle.process.specs.declared.Wait.{Wait}
 use Rattle.process.specs.declared.Process.{Process}
 use Rattle.process.specs.Waiting.{awake}
@@ -9,10 +8,6 @@ use Rattle.process.specs.Waiting.{awake}
 pub record Moved : Type 0 where
   pub found : Bool
   pub process : Process
-
--- the process after its statement, or none
-abbrev pub in_table : Moved → Option Process
-in_table m = then_some m.found m.process
 
 -- 25: "a place, loop or data range the call must use leaves the table"
 abbrev pub astray : Process → Moved

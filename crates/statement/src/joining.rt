@@ -17,9 +17,11 @@ pub struct Joined {
 pub(crate) fn join(cells: &Cells, from: usize, end: usize) -> Joined
     ensures { result ≡ joined_of (slice from end cells.now) }
 {
+    let last = end.min(CELL_PLACES);
     let mut joined = Joined::default();
-    for i in from..end.min(CELL_PLACES) {
-        let Cell::WaitData(s) = decode(cells[i]) else {
+    // The cells are counted beside the loop: their count is a part of the answer.
+    for w in &cells[from.min(last)..last] {
+        let Cell::WaitData(s) = decode(*w) else {
             return joined;
         };
         joined.bytes += u32::from(s.count);

@@ -1,6 +1,7 @@
 // LOOP and END: the open loops of a process. None: a place, loop or data range leaves the table, which is 25.
 ghost use Rattle.std.specs.Prelude.{◌≡◌};
-ghost use Rattle.statement.specs.Ways.{goes, in_table};
+ghost use Rattle.statement.specs.Ways.{goes};
+ghost use Rattle.statement.specs.Inside.InTable.{in_table};
 ghost use Rattle.statement.specs.Loops.{opened, back_to, closed};
 
 use language::LOOP_PLACES;
@@ -38,11 +39,7 @@ pub(crate) fn opens(mut p: Process, next: u16, n: u16) -> Option<Process>
 fn goes_back(p: Process, body: u16) -> Option<Process>
     ensures { result ≡ in_table (back_to p body p.left) }
 {
-    if body < p.end {
-        Some(goes_to(p, body))
-    } else {
-        None
-    }
+    (body < p.end).then(|| goes_to(p, body))
 }
 
 // END; `next` is the place after it.

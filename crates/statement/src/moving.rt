@@ -1,7 +1,7 @@
 // Where a statement takes its process: the next place, the open loops, and the wait. None: a place, loop or data range leaves the table.
 ghost use Rattle.std.specs.Prelude.{◌≡◌, ◌+◌, ◌<◌, ◌≤◌, false, slice_index_or};
 ghost use Rattle.statement.specs.Inside.Joined.{joined_of};
-ghost use Rattle.statement.specs.Ways.{in_table};
+ghost use Rattle.statement.specs.Inside.InTable.{in_table};
 ghost use Rattle.statement.specs.Moving.{goes_on, rests_at, awaits, rests_unless, signalled, after_place, moved_by, cell_at, moved};
 ghost use Rattle.language.specs.Limits.{cell_places};
 
@@ -11,10 +11,12 @@ use cells::decoder::cell_at;
 use language::{CELL_PLACES, Cell, Cells, Level, POOL_PLACES, SIGNALS, Span};
 use process::{Process, Progress, Wait};
 
-// The lengths of the table's arrays, as wide as what is held against them.
+// The lengths of the table's arrays, as wide as what is held against them: language's own are as wide as an index.
 const POOL: u32 = POOL_PLACES as u32;
 
 const CELLS: u16 = CELL_PLACES as u16;
+
+// That a place lies in the table is in each contract: a struct with the bound, made anew at each step, is no plainer.
 
 // A process after its statement, and the cell at its place, so that a drain decodes it once.
 #[derive(Clone, Copy)]

@@ -16,6 +16,7 @@ pub struct Switch {
 }
 
 // What a drain says: none is ready; or what the statement sent, recorded or switched, Plain where it did none of these.
+// Its refusal is a case too: document 01, "Forms by place in the code", has the drain's answer as an enum of outcomes.
 #[derive(Clone, Copy, PartialEq, Eq, Debug)]
 pub enum Outcome {
     Quiet,

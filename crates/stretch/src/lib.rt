@@ -58,6 +58,7 @@ fn role_of(c: Cell) -> Role
         Cell::WaitData(_) => Role::SureRest,
         Cell::WaitByte(n) => rest_above_zero(u32::from(n)),
         Cell::WaitClock(_) => Role::SureRest,
+        // An arm of its own, which the must-fail edit signal_wait_rests alters: its old text may stand once alone.
         Cell::WaitSignal(_) => Role::Other,
         _ => Role::Other,
     }
@@ -126,8 +127,8 @@ fn body_figures(cells: &Cells, at: usize, end: usize, left: usize, n: u32) -> Op
     })
 }
 
-// The stretch of one process, by the places of its first cell and after its last, 4,097 standing for all over 4,096; none where its loops
-// do not nest. Places after the table have no cells.
+// The stretch of one process, by the places of its first cell and after its last, 4,097 standing for all over 4,096 as the figures'
+// definitions have it, which may not change; none where its loops do not nest. Places after the table have no cells.
 fn measure(cells: &Cells, from: usize, end: usize) -> Option<u32>
     ensures { result ≡ alone (marks_between cells.now from end) }
 {

@@ -1,4 +1,4 @@
-// Words, parted by spaces and tabs.
+// Words, parted by spaces and tabs. A slice and a place in it go together: the public parameters may not change.
 #![tactic(auto)]
 
 ghost use Rattle.std.specs.Prelude.{◌≡◌, ◌+◌, ◌^◌, ◌<◌, not, length, drop, take_while, reverse};
@@ -17,6 +17,8 @@ fn rest(s: &[u8], at: usize) -> &[u8]
         None => &[],
     }
 }
+
+// Three lines that differ in what they count: over a closure handed in each contract would name it again, no plainer.
 
 // How many spaces and tabs are at the front.
 fn blanks(s: &[u8]) -> usize

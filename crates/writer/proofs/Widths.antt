@@ -1,16 +1,17 @@
 -- The loops over decimal digits: how many there are, and how they are written. Assumes nothing.
 use Prim.Native.Nat.{ℕ, zero, suc, ◌+◌, ◌-◌, ◌*◌, ◌/◌, ◌%◌, ◌^◌, ◌≤◌, ◌<◌}
-use Rattle.std.specs.Prelude.{Some, None}
+use Rattle.std.specs.Prelude.{None}
 use mathlib.Core.Path.{◌≡◌, refl, sym, ap, ◌∙◌}
-use mathlib.Core.List.{List}
+use mathlib.Core.List.{List, [], append-nil}
 use native.Mathlib.Nat.{pow-suc, mul-div_cancel, mod-lt}
 use native.Mathlib.Omega.{arith}
-use lib.ListN.{length, set}
+use lib.ListN.{length, take, drop, set, length-drop, drop_of_length-le}
+use lib.Seq.{sets-eq, length-take-le}
 use borrow.Author.Tests.{lt-ltb, le-ltb}
 use Rattle.writer.specs.Put.{fixed, width_go, width_of, decimal, put_answer, put_into}
 use Rattle.writer.proofs.Decimals.{ten_pos, ten_next, fits_width, decimal_length}
-use Rattle.reader.proofs.Placing.{Placing, begun, renamed, stored}
-use Rattle.writer.proofs.Writing.{done, no_room}
+use Rattle.reader.proofs.Placing.{Placing, begun, renamed, stored, placed}
+use Rattle.writer.proofs.Writing.{no_room}
 
 -- ---- the width of `n` is looked for among `w`, `w` + 1, .. 10; `p` is ten to the `w`
 pub record Widening (n w p : ℕ) : Type 0 where
@@ -73,11 +74,6 @@ ten_back : (left : ℕ) → 10 ^ suc left / 10 ≡ 10 ^ left
 ten_back left = ap (λ (x : ℕ). x / 10) (pow-suc 10 left) ∙ mul-div_cancel (10 ^ left) (omega arith)
 
 module _ {d₀ : List ℕ} {at : ℕ} {bs d : List ℕ} {p m place : ℕ} where
-  pub all_placed : (left : ℕ) → Digiting d₀ at bs d p left m place → left ≤ 0 → (Some place ≡ put_answer bs d₀ at) × (d ≡ put_into bs d₀ at)
-  unfolding fixed
-  all_placed zero w h = done w.placing
-  all_placed (suc left) w h = absurd (omega arith)
-
   pub power_left : (left : ℕ) → Digiting d₀ at bs d p left m place → 0 < left → 0 < p / 10
   power_left zero w h = absurd (omega arith)
   power_left (suc left) w h = rw (w.power, ten_back left) (ten_pos left)
@@ -90,3 +86,16 @@ module _ {d₀ : List ℕ} {at : ℕ} {bs d : List ℕ} {p m place : ℕ} where
   digit_placed (suc left) rest w h =
       let e : rest ≡ left = omega arith in
       rw (e, w.power, ten_back left) (record { power = refl; below = mod-lt m (ten_pos left); placing = stored w.placing })
+
+-- ---- the part of the slice that is lent for `k` digits: its length, and that they fill it
+pub part_long : (d : List ℕ) (at k : ℕ) → at + k ≤ length d → length (take (at + k - at) (drop at d)) ≡ k
+part_long d at k h =
+    let e : at + k - at ≡ k = omega arith in
+    rw e (length-take-le k (drop at d) (omega (arith, length-drop at d)))
+
+pub part_filled : {d₀ bs d : List ℕ} {p m place : ℕ} (left : ℕ) → Digiting d₀ 0 bs d p left m place → left ≤ 0 → length d₀ ≡ length bs → d ≡ bs
+unfolding fixed
+part_filled {d₀} {bs} zero w h e =
+    let n : drop (0 + length bs) d₀ ≡ [] = drop_of_length-le d₀ (omega arith) in
+    placed w.placing ∙ sets-eq bs d₀ 0 w.placing.room ∙ rw (n, append-nil) refl
+part_filled (suc left) w h e = absurd (omega arith)

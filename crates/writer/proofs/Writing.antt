@@ -5,14 +5,13 @@ use mathlib.Core.Path.{◌≡◌, sym, ap, ◌∙◌}
 use mathlib.Core.List.{List, [], ◌∷◌}
 use native.Mathlib.Numerals.{add-one}
 use native.Mathlib.Omega.{arith}
-use lib.ListN.{length, drop, get_or, set, length-drop}
+use lib.ListN.{length, drop, get_or, set}
 use lib.Seq.{drop-cons, drop-drop}
 use borrow.Rule.Slice.PartMut.{put_mid}
 use borrow.Author.Tests.{le-leb, lt-leb}
 use Rattle.reader.proofs.Placing.{Placing, renamed, stored, placed}
 use Rattle.writer.specs.Hex.{capital, hex_text}
 use Rattle.writer.specs.Put.{put_answer, put_into}
-use Rattle.writer.proofs.Hexes.{hex_length}
 use Rattle.writer.proofs.Joined.{put_parts}
 
 module _ {d₀ : List ℕ} {at : ℕ} {bs d : List ℕ} {place : ℕ} (w : Placing d₀ at bs d place []) where
@@ -38,9 +37,6 @@ copied bs d new at h e =
 -- ---- bytes in hex: what is left at `i`
 
 module _ {d₀ : List ℕ} {at : ℕ} {bs d : List ℕ} {place : ℕ} (s : List ℕ) (i : ℕ) (inside : i < length s) where
-  pub hex_room : Placing d₀ at bs d place (hex_text (drop i s)) → place + 1 < length d
-  hex_room w = omega (arith, w.long, w.ends, w.room, hex_length (drop i s), length-drop i s)
-
   -- `x` and `y` are the digits that the code has found
   pub two_stored : {x y : ℕ} → get_or s i 0 < 256 → x ≡ capital (get_or s i 0 / 16 % 16) → y ≡ capital (get_or s i 0 % 16) → Placing d₀ at bs d place (hex_text (drop i s))
       → Placing d₀ at bs (set (set d place x) (place + 1) y) (place + 2) (hex_text (drop (i + 1) s))

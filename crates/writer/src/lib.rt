@@ -1,5 +1,5 @@
 // Bytes, decimal numbers and hex data written into a lent slice from a place on, all of it or nothing: the place
-// after what was written, or None where there is no room.
+// after what was written, or None where there is no room. The public parameters may not change.
 #![tactic(auto)]
 
 ghost use Rattle.std.specs.Prelude.{◌%◌, ◌^◌, ◌≡◌, ◌∷◌, []};
@@ -46,13 +46,12 @@ pub fn put_hex(dst: &mut [u8], at: usize, bytes: &[u8]) -> Option<usize>
     if dst.len() < at || (dst.len() - at) / 2 < bytes.len() {
         return None;
     }
-    let mut place = at;
-    for b in bytes {
+    for (i, b) in bytes.iter().enumerate() {
+        let place = at + 2 * i;
         dst[place] = capital_digit(*b / 16);
         dst[place + 1] = capital_digit(*b);
-        place += 2;
     }
-    Some(place)
+    Some(at + 2 * bytes.len())
 }
 
 // Writes one byte as two capital hex digits.
@@ -95,9 +94,9 @@ pub fn put_decimal(dst: &mut [u8], at: usize, n: u32) -> Option<usize>
     }
     let end = at + count;
     let mut left = u64::from(n);
-    for place in at..end {
+    for digit in &mut dst[at..end] {
         power /= 10;
-        dst[place] = b'0' + (left / power) as u8;
+        *digit = b'0' + (left / power) as u8;
         left %= power;
     }
     Some(end)

@@ -1,5 +1,6 @@
 -- `accepted::cells_fit::after_word` meets its contract, cell by cell. Assumes nothing.
 use mathlib.Core.Path.{refl, ap, ◌∙◌}
+use mathlib.Core.Logic.{⊎_elim}
 use Rattle.language.specs.Limits.{send_room, wait_room}
 use Rattle.language.specs.Right.{data_right, log_right}
 use Rattle.accepted.specs.Inside.Cells.{cell_fits, bytes_of_cell}
@@ -19,7 +20,8 @@ data_of-requires-in-Log c = logged_inside _ c.decode.ensures c.in-Log.is
 
 pub returns-in-Nothing : goal.returns-in-Nothing
 unfolding cell_fits
-returns-in-Nothing c = word_not _ c.decode.ensures c.in-Nothing.is _ _ refl
+returns-in-Nothing c =
+    ⊎_elim (λ is. word_not _ c.decode.ensures is _ _ refl) (λ is. word_not _ c.decode.ensures is _ _ refl) c.in-Nothing.is
 
 pub returns-in-Send : goal.returns-in-Send
 unfolding cell_fits bytes_of_cell
@@ -39,11 +41,7 @@ returns-in-Log c =
     word_data _ c.decode.ensures c.in-Log.is _ _
     (rw (c.log_right.ensures ∙ ap log_right c.data_of-in-Log.ensures) at c.after-in-Log.ensures)
 
-pub returns-in-Unknown : goal.returns-in-Unknown
-unfolding cell_fits
-returns-in-Unknown c = word_not _ c.decode.ensures c.in-Unknown.is _ _ refl
-
 pub returns-in_default : goal.returns-in_default
 returns-in_default c =
-    let o = dataless _ _ c.decode.result (opened c.in_default.in_default-own.keys6) in
+    let o = dataless _ _ c.decode.result (opened c.in_default.in_default-own.keys5) in
     word_at _ c.decode.ensures refl _ _ o.fits o.none

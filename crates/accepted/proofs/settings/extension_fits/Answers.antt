@@ -16,10 +16,10 @@ slice_bounds-all_capital-end c = letters_count _ c.letters-count.ensures
 
 pub returns-then-all_capital : goal.returns-then-all_capital
 returns-then-all_capital c =
-    right_letters _ c.letters-count.ensures (omega (arith, c.if-count-lt1.false)) c.if-count-gt3.false c.all_capital.ensures
+    right_letters _ c.letters-count.ensures (omega (arith, c.if-count-lt1.false)) c.if-count-gt-LETTERS.false c.all_capital.ensures
     c.if-all_capital.true (zeros_are _ c.all_from.ensures)
 
 pub returns-else-all_capital : goal.returns-else-all_capital
 returns-else-all_capital c =
     c.if-all_capital.false
-    ∙ small_letters _ c.letters-count.ensures (omega (arith, c.if-count-lt1.false)) c.if-count-gt3.false c.all_capital.ensures c.if-all_capital.false
+    ∙ small_letters _ c.letters-count.ensures (omega (arith, c.if-count-lt1.false)) c.if-count-gt-LETTERS.false c.all_capital.ensures c.if-all_capital.false

@@ -8,20 +8,17 @@ use Rattle.events.specs.declared.matching.Matched.{Matched}
 use Rattle.events.specs.Inside.Passing.{farther, matched_on}
 use Rattle.events.proofs.DataPassed.{rest_is, matched_few, matched_whole, matched_end}
 use Rattle.events.proofs.matching.matched_run.Goals as goal
+use Rattle.events.proofs.matching.matched_run.Goals.{then-first-want-via-then-first-want, then-first-want-via-else-first-want+then-at-run}
 
 pub returns-then-first-want : goal.returns-then-first-want
 returns-then-first-want c =
     let a = c.args in
     let r = c.unlinked-first.result in
-    (matched_whole a.want.now a.from r.count r.matched a.run.now c.unlinked-first.ensures.0 c.if-first-want.true, c.requires.2)
-
-pub returns-then-at-run : goal.returns-then-at-run
-returns-then-at-run c =
-    let a = c.args in
-    let r = c.unlinked-first.result in (
-      matched_end a.want.now a.from r.count r.matched a.run.now c.unlinked-first.ensures.0 (drop_of_length-le a.run.now {i = r.count} (omega (arith, c.if-at-run.true))),
-      c.requires.2,
-    )
+    let so = c.unlinked-first.ensures.0 in
+    elim c.then-first-want.branch [
+      | then-first-want-via-then-first-want w ↦ (matched_whole a.want.now a.from r.count r.matched a.run.now so w.if-first-want.true, c.requires.2)
+      | then-first-want-via-else-first-want+then-at-run w ↦ (matched_end a.want.now a.from r.count r.matched a.run.now so (drop_of_length-le a.run.now {i = r.count} (omega (arith, w.if-at-run.true))), c.requires.2)
+    ]
 
 pub overflow_add-result : goal.overflow_add-result
 overflow_add-result c =

@@ -16,7 +16,7 @@ data_passed-requires c =
 pub returns-in-Bytes : goal.returns-in-Bytes
 returns-in-Bytes c =
     let a = c.args in
-    (c.bytes_passed.ensures ∙ sym (ap (passed_by a.pool.now a.p.place a.p.end a.run.now) c.in-Bytes.is), c.requires.2)
+    (c.bytes_passed.ensures a.pool.now ∙ sym (ap (passed_by a.pool.now a.p.place a.p.end a.run.now) c.in-Bytes.is), c.requires.2)
 
 pub returns-in-Data : goal.returns-in-Data
 returns-in-Data c =

@@ -29,7 +29,7 @@ loop-i-preserved c =
     let a = c.args in
     let l = c.loop-i in (
       omega arith,
-      rw (c.put_copies.ensures, c.recorded-count.ensures)
+      rw (c.from-at.ensures, c.put_copies.ensures, c.recorded-count.ensures)
           (records_on a.heads a.paused a.run.now l.i (omega arith) l.invariant.1),
     )
 

@@ -27,7 +27,7 @@ loop-i-preserved c =
     let l = c.loop-i in
     let a = c.args in
     let r = rw (← c.recorded.ensures) at (room_next a.heads a.paused a.run.now l.i l.left (omega arith) (omega arith)) in
-    (omega arith, omega (arith, l.invariant.1, r))
+    (omega arith, rw c.from-left.ensures (omega (arith, l.invariant.1, r)))
 
 pub returns : goal.returns
 returns c =
