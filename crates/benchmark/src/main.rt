@@ -158,7 +158,10 @@ fn usage(rt: HostRuntime, to: &impl Print) -> io::Result<()> {
 // The bytes of a file whose name is a word.
 fn read_word(rt: HostRuntime, place: usize) -> io::Result<Vec<u8>> {
     let mut buffer = [0u8; WORD];
-    read_file(rt, word(rt, place, &mut buffer).unwrap_or(b""), ROOM)
+    let name = word(rt, place, &mut buffer).unwrap_or(b"");
+    let mut bytes = Vec::new(rt.alloc());
+    read_file(rt, name, ROOM, &mut bytes)?;
+    Ok(bytes)
 }
 
 fn read_input(rt: HostRuntime, what: What) -> io::Result<Vec<u8>> {

@@ -63,7 +63,8 @@ fn on_words(rt: HostRuntime, words: usize) -> io::Result<()> {
     if 1 < words {
         return tell(rt, &rt.stderr(), USAGE);
     }
-    let input = read_whole(rt, &mut rt.stdin(), b"standard input", INPUT)?;
+    let mut input = Vec::new(rt.alloc());
+    read_whole(rt, &mut rt.stdin(), b"standard input", INPUT, &mut input)?;
     if input.len() < INPUT {
         all_cases(rt, &input);
         return Ok(());

@@ -1,5 +1,6 @@
 // Files and inputs, read whole. What fails is told on standard error, by its name and the system's word.
-ghost use Rattle.std.specs.Prelude.{◌≤◌, vec_len, IfOk};
+ghost use Rattle.std.specs.Prelude.{◌≤◌, length, take, vec_len};
+ghost use Rattle.std.specs.Io.KnownBytes.{Consumes};
 
 use crate::saying::told;
 use std::fs::File;
@@ -17,32 +18,58 @@ pub fn open(rt: HostRuntime, path: &[u8]) -> io::Result<File> {
     told(rt, path, open_named(rt, path))
 }
 
-// No more than so many bytes are read. Each function that hands them out tells it: every caller would have to unwrap a
-// type of its own, which is no plainer.
-fn read_up_to<R: Read>(rt: HostRuntime, from: &mut R, most: usize) -> io::Result<Vec<u8>>
-    ensures { IfOk result (λ bytes. vec_len bytes ≤ most) }
+// Reads until the input ends, a read fails or the room is full; how many bytes came, also where a read failed.
+// std's read_to_end asks for a part of its room first, and an input that hands over a message at a time drops the rest.
+fn fill<R: Read>(from: &mut R, room: &mut [u8]) -> (usize, io::Result<()>)
+    ensures within { result.0 ≤ length room.new }
+    ensures none_lost { Consumes (R.remaining from.old) (R.remaining from.new) (take result.0 room.new) }
 {
-    let mut bytes = Vec::new(rt.alloc());
-    from.take(most as u64).read_to_end(&mut bytes)?;
-    bytes.truncate(most);
-    Ok(bytes)
+    let mut n = 0;
+    // A proved loop has to end, and nothing says that signals do.
+    for _ in 0..u64::MAX {
+        if n == room.len() {
+            break;
+        }
+        match from.read(&mut room[n..]) {
+            Ok(0) => break,
+            Ok(came) => n += came,
+            Err(error) if error.kind() == ErrorKind::Interrupted => {}
+            Err(error) => return (n, Err(error)),
+        }
+    }
+    (n, Ok(()))
 }
 
-// Reads until the input ends or there are so many bytes; what fails has been told.
+fn read_up_to<R: Read>(from: &mut R, most: usize, bytes: &mut Vec<u8>) -> io::Result<()>
+    ensures within { vec_len bytes.new ≤ most }
+    ensures none_lost { Consumes (R.remaining from.old) (R.remaining from.new) bytes.new.items }
+{
+    bytes.clear();
+    bytes.resize(most, 0)?;
+    let (n, read) = fill(from, bytes);
+    bytes.truncate(n);
+    read
+}
+
+// Reads until the input ends or there are so many bytes; what fails has been told. What was in `bytes` goes, and what
+// came before a read failed stays there.
 pub fn read_whole<R: Read>(
     rt: HostRuntime,
     from: &mut R,
     name: &[u8],
     most: usize,
-) -> io::Result<Vec<u8>>
-    ensures { IfOk result (λ bytes. vec_len bytes ≤ most) }
+    bytes: &mut Vec<u8>,
+) -> io::Result<()>
+    ensures within { vec_len bytes.new ≤ most }
+    ensures none_lost { Consumes (R.remaining from.old) (R.remaining from.new) bytes.new.items }
 {
-    told(rt, name, read_up_to(rt, from, most))
+    told(rt, name, read_up_to(from, most, bytes))
 }
 
 // Reads the file of a name.
-pub fn read_file(rt: HostRuntime, path: &[u8], most: usize) -> io::Result<Vec<u8>>
-    ensures { IfOk result (λ bytes. vec_len bytes ≤ most) }
+pub fn read_file(rt: HostRuntime, path: &[u8], most: usize, bytes: &mut Vec<u8>) -> io::Result<()>
+    ensures { vec_len bytes.new ≤ most }
 {
-    read_whole(rt, &mut open(rt, path)?, path, most)
+    bytes.clear();
+    read_whole(rt, &mut open(rt, path)?, path, most, bytes)
 }

@@ -31,9 +31,9 @@ fn say_answer(rt: HostRuntime, is: bool) {
 }
 
 fn say_file(rt: HostRuntime, name: &str) {
-    let read = read_file(rt, name.as_bytes(), 64);
-    let is_read = read.is_ok();
-    let n = read.map_or(0, |text| text.len());
+    let mut text = Vec::new(rt.alloc());
+    let is_read = read_file(rt, name.as_bytes(), 64, &mut text).is_ok();
+    let n = text.len();
     let _ = print(rt, format_args!("{name}: {n} bytes, read: "));
     say_answer(rt, is_read);
 }

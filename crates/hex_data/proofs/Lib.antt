@@ -3,6 +3,6 @@ pub mod Moved
 pub mod Final
 pub mod Runs
 pub mod HexPlace
--- the states of the loops
-pub mod Next
+-- a digit, and the states of the loops
+pub mod Pairs
 pub mod Stepping

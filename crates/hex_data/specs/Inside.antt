@@ -1,3 +1,3 @@
 -- What the private functions answer, as the code goes through it. Nothing here has to be believed.
-pub mod Next
+pub mod Steps
 pub mod Said

@@ -1,16 +1,15 @@
 // Hex data, read from a place of a slice: the public parameters may not change.
 #![tactic(auto)]
 
-ghost use Rattle.std.specs.Prelude.{◌+◌, ◌≤◌, ◌≡◌, length, drop};
+ghost use Rattle.std.specs.Prelude.{◌+◌, ◌≤◌, ◌<◌, ◌≡◌, length, drop, IfSome};
 ghost use Rattle.std.proofs.lemmas.List.Edits.{sets};
-ghost use Rattle.hex_data.specs.Hex.{good, hex_at, counted, hex_into, hex_put, hex_byte_at};
-ghost use Rattle.hex_data.specs.Inside.Next.{first_digit, NextTold};
+ghost use Rattle.hex_data.specs.Hex.{good, step_of, hex_at, counted, hex_into, hex_put, hex_byte_at};
+ghost use Rattle.hex_data.specs.Inside.Steps.{first_digit, begun, stepped};
 ghost use Rattle.hex_data.specs.Inside.Said.{said_bytes};
 
 use numbers::Number;
-use reader::bytes::digit;
+use reader::bytes::{blank, digit};
 use reader::has_room;
-use words::after_blanks;
 
 // Why no hex data were read: the place of the first byte that cannot be taken, or no room for them.
 #[derive(Clone, Copy, Debug, PartialEq, Eq)]
@@ -19,29 +18,56 @@ pub enum HexFault {
     Full,
 }
 
-// The next byte of hex data with the place after it, none at their end, or the place of a byte that cannot be taken.
-fn next_byte(s: &[u8], at: usize) -> Result<Option<Number>, usize>
-    ensures { NextTold s.now at result }
+// What a byte of hex data does: it parts, it begins a pair, or with it a byte is whole.
+#[derive(Clone, Copy)]
+enum Step {
+    Parts,
+    Begins(u8),
+    Ends(u8),
+}
+
+// What a byte does after the first digit of a pair, if one is begun: a separator leaves that digit a byte. None where it cannot be taken.
+fn step_by(half: Option<u8>, b: u8) -> Option<Step>
+    requires { IfSome half (λ h. h < 16) }
+    ensures { stepped result ≡ step_of (begun half) b }
 {
-    let from = after_blanks(s, at);
-    if s.len() <= from {
-        return Ok(None);
+    match digit(b) {
+        Some(low) => Some(match half {
+            Some(high) => Step::Ends(high * 16 + low),
+            None => Step::Begins(low),
+        }),
+        None if blank(b) => Some(match half {
+            Some(high) => Step::Ends(high),
+            None => Step::Parts,
+        }),
+        None => None,
     }
-    Ok(Some(hex_byte(s, from)?))
 }
 
 // Two walks and no closure: the count must be known before the first byte is written ("all of it or none", `hex_put`).
-// Neither is a `for`: a byte is one or two digits and separators are passed, so a count of turns is no place; no plainer.
+// By the place, which is the answer; and a digit at a time: a reader of whole bytes was tried, and took more than twice as long.
 
 // How many bytes the hex data from a place on to the end are.
 pub fn hex_count(s: &[u8], at: usize) -> Result<usize, usize>
     ensures { result ≡ counted 0 (hex_at s.now at) }
 {
     let mut n = 0;
-    let mut from = at;
-    while let Some(byte) = next_byte(s, from)? {
-        n += 1;
-        from = byte.next;
+    let mut half = None;
+    for i in at..s.len() {
+        let Some(step) = step_by(half, s[i]) else {
+            return Err(i);
+        };
+        match step {
+            Step::Parts => half = None,
+            Step::Begins(high) => half = Some(high),
+            Step::Ends(_) => {
+                half = None;
+                n += 1;
+            }
+        }
+    }
+    if half.is_some() {
+        return Ok(n + 1);
     }
     Ok(n)
 }
@@ -53,11 +79,23 @@ fn hex_write(s: &[u8], at: usize, dst: &mut [u8], to: usize)
     ensures { dst.new ≡ sets dst.old to (said_bytes (hex_at s.now at)) }
 {
     let mut place = to;
-    let mut from = at;
-    while let Ok(Some(byte)) = next_byte(s, from) {
-        dst[place] = byte.value as u8;
-        place += 1;
-        from = byte.next;
+    let mut half = None;
+    for i in at..s.len() {
+        let Some(step) = step_by(half, s[i]) else {
+            return;
+        };
+        match step {
+            Step::Parts => half = None,
+            Step::Begins(high) => half = Some(high),
+            Step::Ends(b) => {
+                half = None;
+                dst[place] = b;
+                place += 1;
+            }
+        }
+    }
+    if let Some(high) = half {
+        dst[place] = high;
     }
 }
 

@@ -49,25 +49,27 @@ fn list_text(rt: HostRuntime, text: &[u8]) -> io::Result<()> {
     }
 }
 
-fn read_named(rt: HostRuntime) -> io::Result<Vec<u8>> {
+fn read_named(rt: HostRuntime, text: &mut Vec<u8>) -> io::Result<()> {
     let mut buffer = [0u8; WORD];
     let name = word(rt, 1, &mut buffer).unwrap_or(b"");
-    read_file(rt, name, ROOM)
+    read_file(rt, name, ROOM, text)
 }
 
 // The text of FILE if there is one, else that of standard input.
-fn read_text(rt: HostRuntime, count: usize) -> io::Result<Vec<u8>> {
+fn read_text(rt: HostRuntime, count: usize, text: &mut Vec<u8>) -> io::Result<()> {
     if count < 2 {
-        return read_whole(rt, &mut rt.stdin(), b"standard input", ROOM);
+        return read_whole(rt, &mut rt.stdin(), b"standard input", ROOM, text);
     }
-    read_named(rt)
+    read_named(rt, text)
 }
 
 fn on_words(rt: HostRuntime, count: usize) -> io::Result<()> {
     if 2 < count {
         return usage(rt, &rt.stderr());
     }
-    list_text(rt, &read_text(rt, count)?)
+    let mut text = Vec::new(rt.alloc());
+    read_text(rt, count, &mut text)?;
+    list_text(rt, &text)
 }
 
 // What fails has been told.

@@ -95,9 +95,10 @@ impl<'a> Case<'a> {
     fn check_listing(&mut self, compiled: &Compiled) -> Result<(), Unlike> {
         let came = printed(self.rt.alloc(), compiled)?;
         let path = self.path(b".listing")?;
-        let Ok(held) = read_file(self.rt, &path, HELD) else {
+        let mut held = Vec::new(self.rt.alloc());
+        if read_file(self.rt, &path, HELD, &mut held).is_err() {
             return self.not_read(&path);
-        };
+        }
         if held.as_slice() == came.as_slice() {
             return Ok(self.add("listing agrees, ")?);
         }
@@ -150,8 +151,9 @@ impl<'a> Case<'a> {
 
     pub(crate) fn check(&mut self) -> Result<(), Unlike> {
         let path = self.path(b".script")?;
-        match read_file(self.rt, &path, ROOM) {
-            Ok(text) => self.check_script(&compile(&text)),
+        let mut text = Vec::new(self.rt.alloc());
+        match read_file(self.rt, &path, ROOM, &mut text) {
+            Ok(()) => self.check_script(&compile(&text)),
             Err(_) => self.not_read(&path),
         }
     }

@@ -35,7 +35,9 @@ NAME.script against NAME.listing, and its run on NAME.operations against NAME.ou
 fn run_named(rt: HostRuntime) -> Result<(), Stop> {
     let mut buffer = [0u8; WORD];
     let name = word(rt, 1, &mut buffer).unwrap_or(b"");
-    let compiled = compile(&read_file(rt, name, ROOM)?);
+    let mut text = Vec::new(rt.alloc());
+    read_file(rt, name, ROOM, &mut text)?;
+    let compiled = compile(&text);
     match compiled.answer {
         Ok(_) => running::print_run(rt, &compiled.table),
         Err(refusal) => {

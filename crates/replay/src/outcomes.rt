@@ -2,7 +2,8 @@
 use console::parts::first;
 use process::{Gulp, RunRefusal};
 use statement::outcome::Outcome;
-use std::fmt;
+use std::{fmt, str};
+use writer::put_hex;
 
 // What is said of an operation: a name, a number if it has one, and how many of the bytes that were lent.
 // A count and no slice: the bytes stay lent to the box while this is made.
@@ -59,6 +60,24 @@ impl From<RunRefusal> for Said {
     }
 }
 
+// How many bytes are shown at once.
+const PIECE: usize = 64;
+
+// Bytes in hex, two digits each. A piece at a time: with a `write!` for each byte a gulp took three times as long.
+#[derive(Clone, Copy)]
+struct InHex<'a>(&'a [u8]);
+
+impl fmt::Display for InHex<'_> {
+    fn fmt<W: fmt::Write>(&self, f: &mut fmt::Formatter<W>) -> fmt::Result {
+        for bytes in self.0.chunks(PIECE) {
+            let mut digits = [0u8; 2 * PIECE];
+            let n = put_hex(&mut digits, 0, bytes).unwrap_or(0);
+            f.write_str(str::from_utf8(first(&digits, n)).map_err(|_| fmt::Error)?)?;
+        }
+        Ok(())
+    }
+}
+
 // The line that tells it: its bytes stand in hex behind it, if there are any.
 #[derive(Clone, Copy)]
 pub struct Told<'a> {
@@ -73,10 +92,8 @@ impl fmt::Display for Told<'_> {
             write!(f, " {number}")?;
         }
         if 0 < self.said.count {
-            f.write_str(" ")?;
-        }
-        for b in first(self.lent, self.said.count) {
-            write!(f, "{b:02X}")?;
+            let bytes = InHex(first(self.lent, self.said.count));
+            write!(f, " {bytes}")?;
         }
         Ok(())
     }

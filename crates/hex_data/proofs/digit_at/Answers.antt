@@ -1,7 +1,7 @@
 -- `digit_at` meets its contract: a place past the end has none. Assumes nothing.
 use mathlib.Core.Path.{ap, ◌∙◌}
 use Rattle.reader.specs.Bytes.{digit_value}
-use Rattle.hex_data.proofs.Next.{digit_past, digit_here}
+use Rattle.hex_data.proofs.Pairs.{digit_past, digit_here}
 use Rattle.hex_data.proofs.digit_at.Goals as goal
 
 pub returns-in_err-get : goal.returns-in_err-get

@@ -2,7 +2,7 @@
 use Prim.Native.Nat.{◌+◌}
 use mathlib.Core.Path.{sym, ◌∙◌}
 use native.Mathlib.Omega.{arith}
-use Rattle.hex_data.proofs.Next.{Shown, shown, byte_gone, one_digit, two_digits}
+use Rattle.hex_data.proofs.Pairs.{Shown, shown, byte_gone, one_digit, two_digits}
 use Rattle.hex_data.proofs.hex_byte.Goals as goal
 use Rattle.hex_data.proofs.hex_byte.Goals.{In-Some, In-Some-digit_at}
 
