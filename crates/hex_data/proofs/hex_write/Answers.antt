@@ -1,5 +1,4 @@
 -- `hex_write` meets its contract: each turn of the loop is a law on its state, `Writing`. Assumes nothing.
-use mathlib.Core.Path.{sym, ◌∙◌}
 use Rattle.hex_data.proofs.Pairs.{first_small, refused_told, parts_told, begins_told, ends_told}
 use Rattle.hex_data.proofs.Stepping.{unwritten, room_at_end, digit_at_end, none_at_end, none_refused, parted, begins, room_there, byte_stored}
 use Rattle.hex_data.proofs.hex_write.Goals as goal
