@@ -45,7 +45,7 @@ fn step_by(half: Option<u8>, b: u8) -> Option<Step>
 }
 
 // Two walks and no closure: the count must be known before the first byte is written ("all of it or none", `hex_put`).
-// By the place, which is the answer; and a digit at a time: a reader of whole bytes was tried, and took more than twice as long.
+// By the place, which is the answer; and a digit at a time: a reader of whole bytes was tried, and took a third more instructions.
 
 // How many bytes the hex data from a place on to the end are.
 pub fn hex_count(s: &[u8], at: usize) -> Result<usize, usize>
