@@ -12,7 +12,7 @@
 use compiler::compile;
 use compiler::faults::number;
 use console::arguments::{Given, WORD, asked, word};
-use console::reading::read_file;
+use console::reading::read_file_into;
 use console::saying::{print, tell};
 use language::{CELL_PLACES, TEXT, Table};
 use process::State;
@@ -160,7 +160,7 @@ fn read_word(rt: HostRuntime, place: usize) -> io::Result<Vec<u8>> {
     let mut buffer = [0u8; WORD];
     let name = word(rt, place, &mut buffer).unwrap_or(b"");
     let mut bytes = Vec::new(rt.alloc());
-    read_file(rt, name, ROOM, &mut bytes)?;
+    read_file_into(rt, name, ROOM, &mut bytes)?;
     Ok(bytes)
 }
 

@@ -10,7 +10,7 @@ mod writers;
 
 use asked::Asked;
 use console::arguments::{Given, asked};
-use console::reading::read_whole;
+use console::reading::read_whole_into;
 use console::saying::tell;
 use output::say;
 use std::io;
@@ -64,7 +64,7 @@ fn on_words(rt: HostRuntime, words: usize) -> io::Result<()> {
         return tell(rt, &rt.stderr(), USAGE);
     }
     let mut input = Vec::new(rt.alloc());
-    read_whole(rt, &mut rt.stdin(), b"standard input", INPUT, &mut input)?;
+    read_whole_into(rt, &mut rt.stdin(), b"standard input", INPUT, &mut input)?;
     if input.len() < INPUT {
         all_cases(rt, &input);
         return Ok(());

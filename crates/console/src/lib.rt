@@ -6,3 +6,5 @@ pub mod lines;
 pub mod parts;
 pub mod reading;
 pub mod saying;
+#[cfg(test)]
+mod tests;

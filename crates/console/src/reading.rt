@@ -1,5 +1,5 @@
 // Files and inputs, read whole. What fails is told on standard error, by its name and the system's word.
-ghost use Rattle.std.specs.Prelude.{◌≤◌, length, take, vec_len};
+ghost use Rattle.std.specs.Prelude.{◌≡◌, ◌≤◌, length, take, vec_len, IfOk, IfSome};
 ghost use Rattle.std.specs.Io.KnownBytes.{Consumes};
 
 use crate::saying::told;
@@ -52,8 +52,8 @@ fn read_up_to<R: Read>(from: &mut R, most: usize, bytes: &mut Vec<u8>) -> io::Re
 }
 
 // Reads until the input ends or there are so many bytes; what fails has been told. What was in `bytes` goes, and what
-// came before a read failed stays there.
-pub fn read_whole<R: Read>(
+// came before a read failed stays there. Room for `most` bytes is taken first.
+pub fn read_whole_into<R: Read>(
     rt: HostRuntime,
     from: &mut R,
     name: &[u8],
@@ -66,10 +66,47 @@ pub fn read_whole<R: Read>(
     told(rt, name, read_up_to(from, most, bytes))
 }
 
-// Reads the file of a name.
-pub fn read_file(rt: HostRuntime, path: &[u8], most: usize, bytes: &mut Vec<u8>) -> io::Result<()>
+// Reads the file of a name, as `read_whole_into` reads.
+pub fn read_file_into(
+    rt: HostRuntime,
+    path: &[u8],
+    most: usize,
+    bytes: &mut Vec<u8>,
+) -> io::Result<()>
     ensures { vec_len bytes.new ≤ most }
 {
     bytes.clear();
-    read_whole(rt, &mut open(rt, path)?, path, most, bytes)
+    read_whole_into(rt, &mut open(rt, path)?, path, most, bytes)
+}
+
+// Room is asked for as the bytes come, and not all at once, so `most` may be any number.
+fn take_up_to<R: Read>(rt: HostRuntime, from: &mut R, most: usize) -> io::Result<Vec<u8>>
+    ensures within { IfOk result (λ bytes. vec_len bytes ≤ most) }
+    ensures whole { IfOk result (λ bytes. IfSome (R.remaining from.old) (λ xs. bytes.items ≡ take most xs)) }
+{
+    let mut bytes = Vec::new(rt.alloc());
+    from.take(most as u64).read_to_end(&mut bytes)?;
+    bytes.truncate(most);
+    Ok(bytes)
+}
+
+// Reads until the input ends or there are so many bytes; what fails has been told. What came before it is lost, and so is
+// the rest of a message that has no room: where an input hands over messages, `read_whole_into` is the one to call.
+pub fn read_whole<R: Read>(
+    rt: HostRuntime,
+    from: &mut R,
+    name: &[u8],
+    most: usize,
+) -> io::Result<Vec<u8>>
+    ensures within { IfOk result (λ bytes. vec_len bytes ≤ most) }
+    ensures whole { IfOk result (λ bytes. IfSome (R.remaining from.old) (λ xs. bytes.items ≡ take most xs)) }
+{
+    told(rt, name, take_up_to(rt, from, most))
+}
+
+// Reads the file of a name, as `read_whole` reads.
+pub fn read_file(rt: HostRuntime, path: &[u8], most: usize) -> io::Result<Vec<u8>>
+    ensures { IfOk result (λ bytes. vec_len bytes ≤ most) }
+{
+    read_whole(rt, &mut open(rt, path)?, path, most)
 }

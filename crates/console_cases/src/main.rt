@@ -3,7 +3,7 @@
 
 use console::arguments::{Given, asked, is_word};
 use console::lines::{LineFault, Lines};
-use console::reading::{open, read_file};
+use console::reading::{open, read_file_into};
 use console::saying::{print, say, tell};
 use std::io;
 use std::io::Read;
@@ -32,7 +32,7 @@ fn say_answer(rt: HostRuntime, is: bool) {
 
 fn say_file(rt: HostRuntime, name: &str) {
     let mut text = Vec::new(rt.alloc());
-    let is_read = read_file(rt, name.as_bytes(), 64, &mut text).is_ok();
+    let is_read = read_file_into(rt, name.as_bytes(), 64, &mut text).is_ok();
     let n = text.len();
     let _ = print(rt, format_args!("{name}: {n} bytes, read: "));
     say_answer(rt, is_read);

@@ -5,7 +5,7 @@ use compiler::compile;
 use compiler::faults::number;
 use console::arguments::{Given, WORD, asked, word};
 use console::parts::first;
-use console::reading::{read_file, read_whole};
+use console::reading::{read_file_into, read_whole_into};
 use console::saying::{print, say, tell};
 use language::{LISTING, TEXT, Table};
 use lister::list;
@@ -52,13 +52,13 @@ fn list_text(rt: HostRuntime, text: &[u8]) -> io::Result<()> {
 fn read_named(rt: HostRuntime, text: &mut Vec<u8>) -> io::Result<()> {
     let mut buffer = [0u8; WORD];
     let name = word(rt, 1, &mut buffer).unwrap_or(b"");
-    read_file(rt, name, ROOM, text)
+    read_file_into(rt, name, ROOM, text)
 }
 
 // The text of FILE if there is one, else that of standard input.
 fn read_text(rt: HostRuntime, count: usize, text: &mut Vec<u8>) -> io::Result<()> {
     if count < 2 {
-        return read_whole(rt, &mut rt.stdin(), b"standard input", ROOM, text);
+        return read_whole_into(rt, &mut rt.stdin(), b"standard input", ROOM, text);
     }
     read_named(rt, text)
 }

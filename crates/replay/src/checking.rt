@@ -7,7 +7,7 @@ use super::stop::Stop;
 use super::telling::Expected;
 use compiler::compile;
 use console::lines::Lines;
-use console::reading::{open, read_file};
+use console::reading::{open, read_file_into};
 use language::{Compiled, LISTING, Table};
 use lister::list;
 use std::alloc::{AllocError, Global};
@@ -96,7 +96,7 @@ impl<'a> Case<'a> {
         let came = printed(self.rt.alloc(), compiled)?;
         let path = self.path(b".listing")?;
         let mut held = Vec::new(self.rt.alloc());
-        if read_file(self.rt, &path, HELD, &mut held).is_err() {
+        if read_file_into(self.rt, &path, HELD, &mut held).is_err() {
             return self.not_read(&path);
         }
         if held.as_slice() == came.as_slice() {
@@ -152,7 +152,7 @@ impl<'a> Case<'a> {
     pub(crate) fn check(&mut self) -> Result<(), Unlike> {
         let path = self.path(b".script")?;
         let mut text = Vec::new(self.rt.alloc());
-        match read_file(self.rt, &path, ROOM, &mut text) {
+        match read_file_into(self.rt, &path, ROOM, &mut text) {
             Ok(()) => self.check_script(&compile(&text)),
             Err(_) => self.not_read(&path),
         }

@@ -5,7 +5,7 @@
 
 use compiler::compile;
 use console::arguments::{Given, WORD, asked, is_word, word};
-use console::reading::read_file;
+use console::reading::read_file_into;
 use console::saying::{print, tell};
 use language::TEXT;
 use showing::Refused;
@@ -36,7 +36,7 @@ fn run_named(rt: HostRuntime) -> Result<(), Stop> {
     let mut buffer = [0u8; WORD];
     let name = word(rt, 1, &mut buffer).unwrap_or(b"");
     let mut text = Vec::new(rt.alloc());
-    read_file(rt, name, ROOM, &mut text)?;
+    read_file_into(rt, name, ROOM, &mut text)?;
     let compiled = compile(&text);
     match compiled.answer {
         Ok(_) => running::print_run(rt, &compiled.table),
