@@ -90,8 +90,8 @@ fn take_up_to<R: Read>(rt: HostRuntime, from: &mut R, most: usize) -> io::Result
     Ok(bytes)
 }
 
-// Reads until the input ends or there are so many bytes; what fails has been told. What came before it is lost, and so is
-// the rest of a message that has no room: where an input hands over messages, `read_whole_into` is the one to call.
+// Reads until the input ends or there are so many bytes; what fails has been told. What came before a read failed is
+// lost, and so is the rest of a message that has no room: an input of messages is for `read_whole_into`.
 pub fn read_whole<R: Read>(
     rt: HostRuntime,
     from: &mut R,

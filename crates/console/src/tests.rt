@@ -1,4 +1,4 @@
-// `read_whole` and `read_file`: without a limit, up to one, and a file that is not there.
+// `read_whole` and `read_file`: without a limit, up to one, a file that is not there, and a folder, which cannot be read.
 use crate::reading::{read_file, read_whole};
 use std::fs;
 use std::test::Fail;
@@ -28,5 +28,6 @@ fn a_file_is_read_up_to_the_limit(rt: HostRuntime) -> Result<(), Fail> {
     }
     fs::remove_file(&rt, "five")?;
     assert!(rt; read_file(rt, b"five", 4).is_err());
+    assert!(rt; read_file(rt, b".", 4).is_err());
     Ok(())
 }
